@@ -1,0 +1,4 @@
+pub mod Marks
+pub mod Joins
+pub mod Firsts
+pub mod Tables

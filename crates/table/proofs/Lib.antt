@@ -1,0 +1,9 @@
+pub mod Commons
+pub mod Searches
+pub mod Leasts
+pub mod Placings
+pub mod Bases
+pub mod Admissions
+pub mod Fittings
+pub mod Verdicts
+pub mod Facts

@@ -1,0 +1,9 @@
+pub mod Workloads
+pub mod Common
+pub mod Placings
+pub mod Searches
+pub mod Cycles
+pub mod Allowances
+pub mod Rungs
+pub mod Admissions
+pub mod Tables

@@ -1,0 +1,5 @@
+pub mod Sums
+pub mod Jobs
+pub mod Orders
+pub mod Awakes
+pub mod Lates

@@ -1,0 +1,4 @@
+pub mod Owners
+pub mod Passes
+pub mod Rests
+pub mod Lates

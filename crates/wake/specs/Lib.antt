@@ -1,0 +1,4 @@
+pub mod Jobs
+pub mod Machines
+pub mod Plans
+pub mod Edls
