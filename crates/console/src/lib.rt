@@ -1,4 +1,6 @@
 //! The text of the programs, from bytes to bytes.
+#![tactic(auto)]
+
 mod input;
 mod page;
 mod text;

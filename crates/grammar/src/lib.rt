@@ -1,5 +1,7 @@
 //! What a machine file says and which bytes say it: the plain values of its lines, its meaning pass by pass and as a grammar, and
 //! the proof that the two agree.
+#![tactic(auto)]
+
 pub mod bytes;
 pub mod letters;
 pub mod name;

@@ -1,4 +1,6 @@
 //! The lines of a machine file: how a text is cut into them, and what each says, word by word.
+#![tactic(auto)]
+
 mod entry;
 mod fields;
 mod letters;

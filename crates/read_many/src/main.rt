@@ -1,4 +1,6 @@
 //! Reads the sheet of one machine file many times over, so that what reading costs can be measured.
+#![tactic(auto)]
+
 use anyhow::anyhow;
 use console::read_up_to;
 use sheet::Sheet;

@@ -1,4 +1,6 @@
 //! The reader of machine files: from bytes to the sheet and the script that they mean, or the first fault.
+#![tactic(auto)]
+
 mod bodies;
 mod contents;
 mod items;

@@ -1,4 +1,6 @@
 //! Prints what reading each of its files yields: the sheet and its script, or why either is refused.
+#![tactic(auto)]
+
 use basis::Fault;
 use console::{put_refusal, read_up_to};
 use sheet::{Script, Sheet};

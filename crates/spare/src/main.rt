@@ -1,4 +1,6 @@
 //! Reads a machine file from standard input and prints the plan of the spare, or why the file is refused.
+#![tactic(auto)]
+
 use anyhow::anyhow;
 use console::{read_up_to, spare_page};
 use std::io::Write;

@@ -1,4 +1,6 @@
 //! Prints what `spare` would print for each of its files.
+#![tactic(auto)]
+
 use console::spare_page;
 use std::fs;
 use std::io::Write;

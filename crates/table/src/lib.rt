@@ -1,4 +1,6 @@
 //! Admitted tables: task sets that fit their cycle.
+#![tactic(auto)]
+
 pub(crate) mod base;
 pub(crate) mod common;
 pub(crate) mod cycle;

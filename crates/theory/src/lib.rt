@@ -1,4 +1,6 @@
 //! The theory of one board that serves one slot of work in a tick and sleeps in some ticks.
+#![tactic(auto)]
+
 ghost use Rattle.theory.specs.Laws.{AlwaysKeepsLaw};
 ghost use Rattle.theory.specs.Lates.{LateKeepsLaw};
 

@@ -1,4 +1,6 @@
 //! Wake plans, and the slot machine by which a board serves its jobs in the ticks of a plan.
+#![tactic(auto)]
+
 pub mod always;
 pub mod edl;
 pub mod job;

@@ -10,5 +10,5 @@ with_zeros s t e = rw (e, sub-zero, drop-replicate)
 
 pub returns : goal.returns
 returns c =
-    let n = ap {B = Name} (λ (bs : List ℕ). record { bytes = bs }) (with_zeros _ _ c.copy-from-slice.ensures.after) in
+    let n = ap {B = Name} (λ (bs : List ℕ). record { bytes = bs }) (with_zeros _ _ c.copy_from_slice.ensures.after) in
     grind (arith, nat_tests, n)
