@@ -4,8 +4,8 @@ use Rattle.std.proofs.lemmas.Bool.Decides.{nat_tests}
 use Rattle.grammar.specs.Texts.{bytes_from}
 use Rattle.lines.proofs.text.check_bytes.Goals as goal
 
-pub returns-else-is-allowed : goal.returns-else-is-allowed
-returns-else-is-allowed c =
+pub returns-else-is_allowed : goal.returns-else-is_allowed
+returns-else-is_allowed c =
     let e = at_drop_more (bytes_from c.loop-b.before c.loop-b.column) c.args.text.now c.loop-b.b-index 0 (omega arith) in
     grind (arith, nat_tests, e)
 

@@ -6,9 +6,9 @@ use Rattle.lines.proofs.text.next_line.Goals as goal
 pub returns-then-n-text : goal.returns-then-n-text
 returns-then-n-text c =
     record {
-      cut = cut_at _ _ c.length-before-n.ensures.value (omega arith);
+      cut = cut_at _ _ c.length_before-n.ensures.value (omega arith);
       shorter = simp (take_rest, length-drop) (omega arith);
     }
 
 pub returns-else-n-text : goal.returns-else-n-text
-returns-else-n-text c = record { cut = none c.args.text.now (omega (arith, c.length-before-n.ensures.value)); shorter = tt }
+returns-else-n-text c = record { cut = none c.args.text.now (omega (arith, c.length_before-n.ensures.value)); shorter = tt }

@@ -4,8 +4,8 @@ use Rattle.std.proofs.lemmas.Bool.Decides.{nat_tests}
 use Rattle.grammar.specs.Bytes.{letters}
 use Rattle.lines.proofs.words.is_name.Goals as goal
 
-pub returns-then-not-is-letter : goal.returns-then-not-is-letter
-returns-then-not-is-letter c =
+pub returns-then-not-is_letter : goal.returns-then-not-is_letter
+returns-then-not-is_letter c =
     let e = at_drop_more letters c.args.piece.now c.loop-b.b-index 0 (omega arith) in
     grind (arith, nat_tests, e)
 

@@ -5,6 +5,6 @@ use Rattle.lines.proofs.words.next_word.Goals as goal
 
 pub returns-then-n-tail : goal.returns-then-n-tail
 returns-then-n-tail c =
-    let e = take_rest c.args.tail.bytes.now (c.length-before-n.result + 1) in
-    let w = c.in-ok-word.ensures in
+    let e = take_rest c.args.tail.bytes.now (c.length_before-n.result + 1) in
+    let w = c.in_ok-word.ensures in
     grind (arith, nat_tests, e, w)

@@ -5,8 +5,8 @@ use Rattle.std.proofs.lemmas.Bool.Decides.{nat_tests}
 use Rattle.grammar.specs.Bytes.{digits_from}
 use Rattle.lines.proofs.words.number.Goals as goal
 
-pub returns-then-not-is-digit : goal.returns-then-not-is-digit
-returns-then-not-is-digit c =
+pub returns-then-not-is_digit : goal.returns-then-not-is_digit
+returns-then-not-is_digit c =
     let e = at_drop_more (digits_from c.loop-b.value) c.args.piece.now c.loop-b.b-index 0 (omega arith) in
     record { value = grind (arith, nat_tests, e); small = tt }
 
