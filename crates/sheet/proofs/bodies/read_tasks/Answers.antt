@@ -26,8 +26,8 @@ both places f n count heading rest ls e en few early free value =
 
 pub returns : goal.returns
 returns c =
-    let v = c.in-ok-rest.ensures in
+    let v = c.in_ok-rest.ensures in
     let k =
-    both _ c.item-lines.new.items _ c.args.count c.args.heading _ _
+    both _ c.item_lines.new.items _ c.args.count c.args.heading _ _
     (search rules) c.len-count.ensures c.requires.0 c.requires.1 (search rules) (search rules) in
     record { whole = k.0; value = k.1 }

@@ -5,14 +5,14 @@ use Rattle.grammar.specs.Texts.{lines}
 use Rattle.sheet.proofs.Onward.{fails, goes, room, less_room}
 use Rattle.sheet.proofs.items.item_lines.Goals as goal
 
-pub returns-in-err-item : goal.returns-in-err-item
-returns-in-err-item g c =
-    let p = err_from_is_err_and c.from-residual.result c.from-residual.ensures.1 in
+pub returns-in_err-item : goal.returns-in_err-item
+returns-in_err-item g c =
+    let p = err_from_is_err_and c.from_residual.result c.from_residual.ensures.1 in
     rw (p.1, p.2) (record {
       lent = c.loop-i.invariant.0;
       free = tt;
-      value = fails g.T-as-Item.of c.args.at c.args.count c.loop-i.i (entries_of c.loop-i.items) (lines c.loop-i.rest.now) _
-          (omega arith) _ c.in-err-item.ensures c.loop-i.invariant.2;
+      value = fails g.T.Item.of c.args.at c.args.count c.loop-i.i (entries_of c.loop-i.items) (lines c.loop-i.rest.now) _
+          (omega arith) _ c.in_err-item.ensures c.loop-i.invariant.2;
     })
 
 pub returns-in-Err : goal.returns-in-Err
@@ -25,6 +25,6 @@ loop-i-preserved g c =
     let pushed = c.in-Ok.ensures.cases in (
       c.push.ensures.lent ∙ c.loop-i.invariant.0,
       less_room (free_of c.args.items.now) (free_of c.loop-i.items) (free_of c.push.new.self) c.loop-i.i pushed.1 c.loop-i.invariant.1,
-      rw pushed.0 (goes g.T-as-Item.of c.args.at c.args.count c.loop-i.i (entries_of c.loop-i.items) (lines c.loop-i.rest.now) _
-          (omega arith) _ _ c.in-ok-item.ensures c.loop-i.invariant.2),
+      rw pushed.0 (goes g.T.Item.of c.args.at c.args.count c.loop-i.i (entries_of c.loop-i.items) (lines c.loop-i.rest.now) _
+          (omega arith) _ _ c.in_ok-item.ensures c.loop-i.invariant.2),
     )

@@ -8,5 +8,5 @@ abbrev pub invariant-loop-i : goal.invariant-loop-i
 invariant-loop-i g l =
     (lent_of l.items ≡ lent_of l.initial.items)
     × (free_of l.items ≡ drop l.i (free_of l.initial.items))
-    × (items_from g.T-as-Item.of (l.at + l.i) (l.count - l.i) (entries_of l.items) (lines l.rest)
-    ≡ items_from g.T-as-Item.of l.at l.count (entries_of l.initial.items) (lines l.part))
+    × (items_from g.T.Item.of (l.at + l.i) (l.count - l.i) (entries_of l.items) (lines l.rest)
+    ≡ items_from g.T.Item.of l.at l.count (entries_of l.initial.items) (lines l.part))

@@ -5,8 +5,8 @@ use Rattle.grammar.specs.Passes.{apart_from}
 use Rattle.sheet.proofs.Unread.{unread}
 use Rattle.sheet.proofs.passes.check_tasks.Goals as goal
 
-pub returns-then-is-barred : goal.returns-then-is-barred
-returns-then-is-barred c =
+pub returns-then-is_barred : goal.returns-then-is_barred
+returns-then-is_barred c =
     let e = at_drop_more (apart_from (c.args.first + c.loop-i.i) (take c.loop-i.i c.args.tasks.now)) c.args.tasks.now c.loop-i.i unread (omega arith) in
     grind (arith, nat_tests, e)
 
