@@ -54,7 +54,7 @@ def main(argv):
     root = next((a for a in argv if not a.startswith("-")), ".")
     found = declared(root)
     names = set(NAMES) | {snake(n) for n, where in found.items() if "-" not in n and any("/specs/" in p for p in where)}
-    turn = {n: LEMMAS.get(n) or spelled(n, names) for n in found}
+    turn = {n: LEMMAS.get(n) or spelled(spelled(n, names), names) for n in found}
     turn = {a: b for a, b in turn.items() if a != b}
     for a, b in sorted(turn.items()):
         if "--list" in argv:
@@ -76,8 +76,11 @@ FIELDS = {"some-period"}
 
 
 def made_field(text, m):
-    """A name behind a dot is a field: only a record's own field is respelled there."""
-    return m.start() > 0 and text[m.start() - 1] == "." and m[0] not in FIELDS
+    """A name behind a dot is a field, and only a record's own field is respelled there; but not so where a module stands before the dot."""
+    if m.start() == 0 or text[m.start() - 1] != "." or m[0] in FIELDS:
+        return False
+    before = re.search(r"([^\s(){}\[\],;.=:]+)\.$", text[: m.start()])
+    return not (before and re.search(r"^\s*use \S+ as " + re.escape(before[1]) + r"$", text, re.M))
 
 
 if __name__ == "__main__":

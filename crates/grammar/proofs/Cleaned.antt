@@ -216,12 +216,12 @@ each_nth P (y ∷ xs) zero x h e = let same : y ≡ x = cc in subst P same h.0
 each_nth P (y ∷ xs) (suc i) x h e = each_nth P xs i x h.1 e
 
 -- of clean lines none is at fault
-pub no_bytes-fault : (text : List ℕ) → Each IsClean (lines text) → end_of text ≡ [] → (i : ℕ) → BytesFault text i → ⊥
-no_bytes-fault text clean end i (inl h) = h.2 (each_nth IsClean (lines text) i h.0 clean h.1)
-no_bytes-fault text clean end i (inr h) = h.1 end
+pub no_bytes_fault : (text : List ℕ) → Each IsClean (lines text) → end_of text ≡ [] → (i : ℕ) → BytesFault text i → ⊥
+no_bytes_fault text clean end i (inl h) = h.2 (each_nth IsClean (lines text) i h.0 clean h.1)
+no_bytes_fault text clean end i (inr h) = h.1 end
 
 pub bytes-sound : (text : List ℕ) → bytes_from 0 0 text ≡ Ok tt → (i : ℕ) → BytesFault text i → ⊥
-bytes-sound text h = let k = (judged text).passes h in no_bytes-fault text k.0 k.2
+bytes-sound text h = let k = (judged text).passes h in no_bytes_fault text k.0 k.2
 
 -- a text that does not pass is refused at the first line at fault
 pub bytes_fail : (text : List ℕ) (f : Fault) → bytes_from 0 0 text ≡ Err f
@@ -250,4 +250,4 @@ bytes_complete ls h = none (bytes_from 0 0 (text_of ls)) refl
     none (Ok x) e = refl
     none (Err f) e =
         let k = bytes_fail (text_of ls) f e in
-        absurd (no_bytes-fault (text_of ls) (subst (Each IsClean) (sym (lines_of ls h)) h) (end_of_lem ls) k.0 k.2)
+        absurd (no_bytes_fault (text_of ls) (subst (Each IsClean) (sym (lines_of ls h)) h) (end_of_lem ls) k.0 k.2)

@@ -61,13 +61,13 @@ letters_complete at (l ∷ ls) (x ∷ xs) h =
     (bind_then (script_from (at + 1) ls) (λ xs. Ok (x ∷ xs)) xs (Ok (x ∷ xs)) (letters_complete (at + 1) ls xs h.1) refl)
 
 -- of lines that say letters none is at fault
-no_script-fault : (ls : Lines) (xs : List Letters) → Pairs IsScriptLine ls xs → (i : ℕ) → ScriptFault ls i → ⊥
-no_script-fault [] xs h i w = nowhere w.1
-no_script-fault (l ∷ ls) [] h i w = h
-no_script-fault (l ∷ ls) (x ∷ xs) h zero w =
+no_script_fault : (ls : Lines) (xs : List Letters) → Pairs IsScriptLine ls xs → (i : ℕ) → ScriptFault ls i → ⊥
+no_script_fault [] xs h i w = nowhere w.1
+no_script_fault (l ∷ ls) [] h i w = h
+no_script_fault (l ∷ ls) (x ∷ xs) h zero w =
     let same : l ≡ w.0 = (let q = w.1 in cc) in
     w.2 x (subst (λ (l : List ℕ). IsScriptLine l x) same h.0)
-no_script-fault (l ∷ ls) (x ∷ xs) h (suc i) w = no_script-fault ls xs h.1 i w
+no_script_fault (l ∷ ls) (x ∷ xs) h (suc i) w = no_script_fault ls xs h.1 i w
 
 -- lines that do not pass are refused at the first that is at fault
 letters_fail : (at : ℕ) (ls : Lines) (f : Fault) → script_from at ls ≡ Err f → ScriptRefused at ls f
@@ -117,5 +117,5 @@ script_read_as at ls =
     }
   where
     refuses : (r : Result (List Letters) Fault) → script_from at ls ≡ r → (f : Fault) → ScriptRefused at ls f → r ≡ Err f
-    refuses (Ok xs) e f h = absurd (no_script-fault ls xs (letters-sound at ls xs e) h.before h.fault)
+    refuses (Ok xs) e f h = absurd (no_script_fault ls xs (letters-sound at ls xs e) h.before h.fault)
     refuses (Err g) e f h = let k : g ≡ f = script-once at ls g f (letters_fail at ls g e) h in (λ i. Err (k i))

@@ -82,7 +82,7 @@ module _ (t : Table) where
 
   pub level_in_range : (i : ℕ) → i < length (admitted t).levels → (1 ≤ get_or (admitted t).levels i 0) × (get_or (admitted t).levels i 0 ≤ 100)
   unfolding levels_as_sheet
-  level_in_range i h = sheet.level-in-range levels_as_sheet i h
+  level_in_range i h = sheet.level_in_range levels_as_sheet i h
 
   pub levels-rise : (i j : ℕ) → i < j → j < length (admitted t).levels → get_or (admitted t).levels i 0 < get_or (admitted t).levels j 0
   unfolding levels_as_sheet
@@ -90,7 +90,7 @@ module _ (t : Table) where
 
   pub last_level_full : get_or (admitted t).levels (length (admitted t).levels - 1) 0 ≡ 100
   unfolding levels_as_sheet
-  last_level_full = sheet.last-level-full levels_as_sheet
+  last_level_full = sheet.last_level_full levels_as_sheet
 
   -- the base level is one of the levels
   pub base_in_range : (1 ≤ (admitted t).base) × ((admitted t).base ≤ 100)

@@ -4,8 +4,8 @@ use Rattle.std.proofs.lemmas.Bool.{cases_eq, cases_Bool, cond_both, and_parts, a
 use Rattle.std.proofs.lemmas.Bool.Decides.{nat_tests}
 use Rattle.theory.specs.Orders.{Key, earlier, against, earliest, Chosen}
 
-pub earlier-one_way : (k l : Key) → earlier k l ≡ true → earlier l k ≡ true → ⊥
-earlier-one_way k l h g = let z : ◌≡◌ {A = ℕ} 0 1 = grind (arith, nat_tests) in omega arith
+pub earlier_one_way : (k l : Key) → earlier k l ≡ true → earlier l k ≡ true → ⊥
+earlier_one_way k l h g = let z : ◌≡◌ {A = ℕ} 0 1 = grind (arith, nat_tests) in omega arith
 
 pub earlier_chain : (k l m : Key) → earlier k l ≡ true → earlier l m ≡ true → earlier k m ≡ true
 earlier_chain k l m h g = grind (arith, nat_tests)
@@ -72,5 +72,5 @@ module _ (eligible : ℕ → Bool) (key : ℕ → Key) (own : (k : ℕ) → (key
   chosen_one n (Some b) (Some c) h g =
       ⊎_elim
       (λ (e : b ≡ c). ap (λ x. Some x) e)
-      (λ (e : b ≡ c → ⊥). absurd (earlier-one_way (key b) (key c) (h.2 c g.0 g.1 (λ q. e (sym q))) (g.2 b h.0 h.1 e)))
+      (λ (e : b ≡ c → ⊥). absurd (earlier_one_way (key b) (key c) (h.2 c g.0 g.1 (λ q. e (sym q))) (g.2 b h.0 h.1 e)))
       (cases_eq b c)

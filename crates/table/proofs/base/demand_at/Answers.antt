@@ -11,22 +11,22 @@ use Rattle.table.proofs.base.demand_at.Goals as goal
 pub loop-i-init : goal.loop-i-init
 loop-i-init c = (sym (sum-zero _), omega arith)
 
-pub allowance-at-allowance-requires : goal.allowance-at-allowance-requires
+pub allowance_at-allowance-requires : goal.allowance_at-allowance-requires
 unfolding work
-allowance-at-allowance-requires c =
+allowance_at-allowance-requires c =
     let p = c.requires.sound c.loop-i.i c.loop-i-test.true in
     (c.requires.speed.0, (c.requires.speed.1, omega (arith, p.1, p.2)))
 
-pub nonzero-div-sum : goal.nonzero-div-sum
+pub nonzero_div-sum : goal.nonzero_div-sum
 unfolding period
-nonzero-div-sum c = period-some c.args.loads.now c.requires.sound c.loop-i.i c.loop-i-test.true
+nonzero_div-sum c = period-some c.args.loads.now c.requires.sound c.loop-i.i c.loop-i-test.true
 
-pub overflow-add-sum : goal.overflow-add-sum
+pub overflow_add-sum : goal.overflow_add-sum
 unfolding period
-overflow-add-sum c =
+overflow_add-sum c =
     let q = c.args.cycle / period c.args.loads.now c.loop-i.i in
-    let m : c.allowance-at-allowance.result * q ≤ 3000099 * 30000 =
-    mul-le c.allowance-at-allowance.result q 3000099 30000 c.allowance-at-allowance.ensures.small
+    let m : c.allowance_at-allowance.result * q ≤ 3000099 * 30000 =
+    mul-le c.allowance_at-allowance.result q 3000099 30000 c.allowance_at-allowance.ensures.small
     (omega (arith, div-le_self c.args.cycle (period c.args.loads.now c.loop-i.i), c.requires.short)) in
     omega (arith, m, c.loop-i.invariant.1, c.requires.few)
 
@@ -38,14 +38,14 @@ loop-i-preserved c =
     let H = c.args.cycle in
     let s = c.args.level in
     let q = H / period T i in
-    let m : c.allowance-at-allowance.result * q ≤ 3000099 * 30000 =
-    mul-le c.allowance-at-allowance.result q 3000099 30000 c.allowance-at-allowance.ensures.small
+    let m : c.allowance_at-allowance.result * q ≤ 3000099 * 30000 =
+    mul-le c.allowance_at-allowance.result q 3000099 30000 c.allowance_at-allowance.ensures.small
     (omega (arith, div-le_self H (period T i), c.requires.short)) in (
       omega (
         arith,
         sum_more i (λ k. allowance s (work T k) * (H / period T k)),
         c.loop-i.invariant.0,
-        ap (λ x. x * q) c.allowance-at-allowance.ensures.value,
+        ap (λ x. x * q) c.allowance_at-allowance.ensures.value,
       ),
       omega (arith, m, c.loop-i.invariant.1),
     )

@@ -9,7 +9,7 @@ loop-i-preserved c =
     let vs = c.args.levels.now in
     let i = c.loop-i.i in
     let P : ℕ → Type 0 = λ w. PlacedTo f no_rung 8 vs (i + 1) (set c.loop-i.places i (record { level = get_or vs i 0; demand = w })) in
-    subst P (sym c.demand-at.ensures) (placed_more f no_rung 8 vs i 0 c.loop-i.places c.loop-i-test.true c.requires.levels.few c.loop-i.invariant)
+    subst P (sym c.demand_at.ensures) (placed_more f no_rung 8 vs i 0 c.loop-i.places c.loop-i-test.true c.requires.levels.few c.loop-i.invariant)
 
 pub returns : goal.returns
 returns c =

@@ -4,11 +4,11 @@ use Rattle.table.proofs.Fittings as fit
 use Rattle.table.proofs.Fittings.{Found, same_table}
 use Rattle.table.proofs.table.Table.fitted.Goals as goal
 
-pub allowances-of-allowances-requires : goal.allowances-of-allowances-requires
-allowances-of-allowances-requires c =
+pub allowances_of-allowances-requires : goal.allowances_of-allowances-requires
+allowances_of-allowances-requires c =
     let found : Found c.args.sheet.now c.tasks-tasks.result.now c.args.works c.args.cycle c.args.base =
     record { tasks = c.tasks-tasks.ensures; placed = c.requires.placed; least = c.requires.cycle.0; low = c.requires.base } in
-    record { few = fit.part-few found; sound = fit.works-sound found; speed = fit.speed found }
+    record { few = fit.part_few found; sound = fit.works-sound found; speed = fit.speed found }
 
 pub new-requires : goal.new-requires
 new-requires c =
@@ -20,81 +20,56 @@ new-requires c =
       rest = fit.works-rest found;
       short = c.requires.cycle.1;
       whole = fit.works-whole found;
-      fits = fit.works-fit found;
+      fits = fit.works_fit found;
     }
 
 pub new-requires-2 : goal.new-requires-2
 new-requires-2 c =
     let found : Found c.args.sheet.now c.tasks-tasks.result.now c.args.works c.args.cycle c.args.base =
     record { tasks = c.tasks-tasks.ensures; placed = c.requires.placed; least = c.requires.cycle.0; low = c.requires.base } in
-    let slow = c.allowances-of-allowances.ensures in
+    let slow = c.allowances_of-allowances.ensures in
     record {
       places = slow.long;
       few = fit.few found;
-      rest = fit.slow-rest found slow;
+      rest = fit.slow_rest found slow;
       short = c.requires.cycle.1;
-      whole = fit.slow-whole found slow;
-      fits = fit.slow-fit found slow;
+      whole = fit.slow_whole found slow;
+      fits = fit.slow_fit found slow;
     }
 
-pub invariant-of-result : goal.invariant-of-result
-invariant-of-result c =
+pub invariant_of-result : goal.invariant_of-result
+invariant_of-result c =
     let found : Found c.args.sheet.now c.tasks-tasks.result.now c.args.works c.args.cycle c.args.base =
     record { tasks = c.tasks-tasks.ensures; placed = c.requires.placed; least = c.requires.cycle.0; low = c.requires.base } in
-    let slow = c.allowances-of-allowances.ensures in
+    let slow = c.allowances_of-allowances.ensures in
     let eu = c.new.ensures.loads in
     let ev = c.new-2.ensures.loads in
     let levels = c.levels-levels.ensures in
-    let placed = c.levels-of.ensures in (
-      c.names-of.ensures.long,
-      (
-        fit.name-rest found slow eu ev c.names-of.ensures,
-        (
-          c.new-2.ensures.cycle ∙ sym c.new.ensures.cycle,
-          (
-            fit.one_size found slow eu ev,
-            (
-              fit.one-period found slow eu ev,
-              (
-                fit.at_base found slow eu ev,
-                (
-                  fit.works-some found slow eu ev,
-                  (
-                    placed.long,
-                    (
-                      omega (arith, ap length levels, levels-some c.args.sheet.now),
-                      (
-                        omega (arith, ap length levels, levels-few c.args.sheet.now),
-                        (
-                          placed.rest,
-                          (
-                            fit.level-order found levels placed,
-                            (
-                              fit.base-known found levels placed,
-                              (
-                                (fit.speed found).0,
-                                ((fit.speed found).1, tt),
-                              ),
-                            ),
-                          ),
-                        ),
-                      ),
-                    ),
-                  ),
-                ),
-              ),
-            ),
-          ),
-        ),
-      ),
-    )
+    let placed = c.levels_of.ensures in
+    record {
+      name_places = c.names_of.ensures.long;
+      name_rest = fit.name-rest found slow eu ev c.names_of.ensures;
+      one_cycle = c.new-2.ensures.cycle ∙ sym c.new.ensures.cycle;
+      one_size = fit.one_size found slow eu ev;
+      one_period = fit.one-period found slow eu ev;
+      at_base = fit.at_base found slow eu ev;
+      works_some = fit.works-some found slow eu ev;
+      level_places = placed.long;
+      level_some = omega (arith, ap length levels, levels-some c.args.sheet.now);
+      level_few = omega (arith, ap length levels, levels-few c.args.sheet.now);
+      level_rest = placed.rest;
+      level_order = fit.level_order found levels placed;
+      base_known = fit.base-known found levels placed;
+      base_some = (fit.speed found).0;
+      base_most = (fit.speed found).1;
+    }
 
 pub returns : goal.returns
 returns c =
     let found : Found c.args.sheet.now c.tasks-tasks.result.now c.args.works c.args.cycle c.args.base =
     record { tasks = c.tasks-tasks.ensures; placed = c.requires.placed; least = c.requires.cycle.0; low = c.requires.base } in
-    let slow = c.allowances-of-allowances.ensures in
+    let slow = c.allowances_of-allowances.ensures in
     let eu = c.new.ensures.loads in
     let ev = c.new-2.ensures.loads in
-    same_table (fit.names-are found slow eu ev c.names-of.ensures) (fit.u-is found slow eu ev) (fit.v-is found slow eu ev)
-    (fit.levels-are found c.levels-levels.ensures c.levels-of.ensures) refl c.new.ensures.cycle c.power.ensures
+    same_table (fit.names-are found slow eu ev c.names_of.ensures) (fit.u-is found slow eu ev) (fit.v-is found slow eu ev)
+    (fit.levels_are found c.levels-levels.ensures c.levels_of.ensures) refl c.new.ensures.cycle c.power.ensures
