@@ -3,8 +3,10 @@ use Rattle.table.specs.Workloads.{loads_in, turn_of}
 use Rattle.wake.proofs.Lates.{edl_none}
 use Rattle.wake.proofs.edl.EdlPlan.blank.Goals as goal
 
-pub invariant-of-result : goal.invariant-of-result
-invariant-of-result c = (
-  omega arith,
-  ((λ t h. omega arith), ((λ t h l. edl_none (loads_in c.blank.result) (turn_of c.blank.result) t c.blank.ensures.loads), tt)),
-)
+pub invariant_of-result : goal.invariant_of-result
+invariant_of-result c =
+    record {
+      room = omega arith;
+      shown = λ t h. omega arith;
+      quiet = λ t h l. edl_none (loads_in c.blank.result) (turn_of c.blank.result) t c.blank.ensures.loads;
+    }

@@ -11,13 +11,13 @@ pub loop-i-init : goal.loop-i-init
 unfolding sum
 loop-i-init c = refl
 
-pub nonzero-rem-tick : goal.nonzero-rem-tick
+pub nonzero_rem-tick : goal.nonzero_rem-tick
 unfolding period
-nonzero-rem-tick c = c.requires.periods c.loop-i.i c.loop-i-test.true
+nonzero_rem-tick c = c.requires.periods c.loop-i.i c.loop-i-test.true
 
-pub overflow-add-sum : goal.overflow-add-sum
+pub overflow_add-sum : goal.overflow_add-sum
 unfolding work period
-overflow-add-sum c =
+overflow_add-sum c =
     let b = share_bound c.args.loads.now c.args.tick c.loop-i.i c.loop-i.sum c.loop-i-test.true c.loop-i.invariant in
     let s = c.requires.small in
     grind (arith, nat_tests)

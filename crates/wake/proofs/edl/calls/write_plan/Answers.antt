@@ -18,8 +18,8 @@ bounded : (f : Workload) (t B : ℕ) → 0 < t → t ≤ turn_of f → B ≡ bac
 bounded f t B p l e =
     omega (arith, due_bound (loads_in f) (turn_of f) (cycle_of_lem f).some-period t p l, fits_of f, short_of f)
 
-pub work-due-backlog-requires : goal.work-due-backlog-requires
-work-due-backlog-requires c =
+pub work_due-backlog-requires : goal.work_due-backlog-requires
+work_due-backlog-requires c =
     let l : c.loop-t.t ≤ turn_of c.args.workload.now = omega arith in
     rw c.loads-loads.ensures
     (record {
@@ -27,8 +27,8 @@ work-due-backlog-requires c =
       small = omega (arith, bounded c.args.workload.now c.loop-t.t c.loop-t.backlog c.loop-t-test.true l c.loop-t.invariant.0);
     })
 
-pub overflow-add-backlog : goal.overflow-add-backlog
-overflow-add-backlog c =
+pub overflow_add-backlog : goal.overflow_add-backlog
+overflow_add-backlog c =
     let l : c.loop-t.t ≤ turn_of c.args.workload.now = omega arith in
     omega (
       arith,
@@ -43,9 +43,9 @@ loop-t-preserved-then-backlog-gt0 c =
     let t = c.loop-t.t in
     let l : t ≤ H = omega arith in
     let m : H ≤ length c.loop-t.memory = omega arith in
-    let d : c.work-due-backlog.result ≡ due_at T (t - 1 + 1) =
-    c.work-due-backlog.ensures ∙ ap (λ x. due_at x (t - 1 + 1)) c.loads-loads.ensures in
-    let w = turn_awake T H t c.loop-t.backlog c.work-due-backlog.result c.loop-t-test.true l c.loop-t.invariant.0 d c.if-backlog-gt0.true in (
+    let d : c.work_due-backlog.result ≡ due_at T (t - 1 + 1) =
+    c.work_due-backlog.ensures ∙ ap (λ x. due_at x (t - 1 + 1)) c.loads-loads.ensures in
+    let w = turn_awake T H t c.loop-t.backlog c.work_due-backlog.result c.loop-t-test.true l c.loop-t.invariant.0 d c.if-backlog-gt0.true in (
       w.0,
       bytes_more (λ k. bit (edl T H k)) H t 1 c.loop-t.memory c.loop-t-test.true l m w.1 c.loop-t.invariant.1,
       bytes_past H t 1 c.loop-t.memory c.args.memory.now c.loop-t-test.true l c.loop-t.invariant.2,
@@ -58,9 +58,9 @@ loop-t-preserved c =
     let t = c.loop-t.t in
     let l : t ≤ H = omega arith in
     let m : H ≤ length c.loop-t.memory = omega arith in
-    let d : c.work-due-backlog.result ≡ due_at T (t - 1 + 1) =
-    c.work-due-backlog.ensures ∙ ap (λ x. due_at x (t - 1 + 1)) c.loads-loads.ensures in
-    let w = turn_rests T H t c.loop-t.backlog c.work-due-backlog.result c.loop-t-test.true l c.loop-t.invariant.0 d c.if-backlog-gt0.false in (
+    let d : c.work_due-backlog.result ≡ due_at T (t - 1 + 1) =
+    c.work_due-backlog.ensures ∙ ap (λ x. due_at x (t - 1 + 1)) c.loads-loads.ensures in
+    let w = turn_rests T H t c.loop-t.backlog c.work_due-backlog.result c.loop-t-test.true l c.loop-t.invariant.0 d c.if-backlog-gt0.false in (
       w.0,
       bytes_more (λ k. bit (edl T H k)) H t 0 c.loop-t.memory c.loop-t-test.true l m w.1 c.loop-t.invariant.1,
       bytes_past H t 0 c.loop-t.memory c.args.memory.now c.loop-t-test.true l c.loop-t.invariant.2,

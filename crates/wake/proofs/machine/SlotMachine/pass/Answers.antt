@@ -29,31 +29,21 @@ renew-requires c =
       early = omega arith;
     })
 
-pub invariant-of-self : goal.invariant-of-self
-invariant-of-self c =
+pub invariant_of-self : goal.invariant_of-self
+invariant_of-self c =
     let m = c.args.self.now in
     let T = loads_in m.workload in
     let o = owner T c.args.awake (λ i. (get_or m.jobs i no_job).left) m.tick in
     let after = (λ (k : ℕ). composed T _ (m.tick + 1) k o _ (get_or m.jobs k no_job) _ _ (c.renew.ensures k) c.loads.ensures (c.charge.ensures k) c.owner-owner.ensures) in
-    let p = (λ (k : ℕ) (l : k < size T). passed T m.tick c.args.awake o k (get_or m.jobs k no_job) l ((cycle_of_lem m.workload).some-period k l) (m.dues k l) (m.releases k l) (m.own k l)) in (
-      omega (arith, m.places, c.charge.auto.jobs, c.renew.auto.jobs),
-      (
-        (λ k l. after k ∙ rest_after T m.tick c.args.awake o k (get_or m.jobs k no_job) l (m.rest k l)),
-        (
-          omega arith,
-          (
-            (λ k l. ap (λ (j : Job). j.due) (after k) ∙ (p k l).0),
-            (
-              (λ k l. ap (λ (j : Job). j.release) (after k) ∙ (p k l).1),
-              (
-                (λ k l. ap (λ (j : Job). j.place) (after k) ∙ (p k l).2),
-                tt,
-              ),
-            ),
-          ),
-        ),
-      ),
-    )
+    let p = (λ (k : ℕ) (l : k < size T). passed T m.tick c.args.awake o k (get_or m.jobs k no_job) l ((cycle_of_lem m.workload).some-period k l) (m.dues k l) (m.releases k l) (m.own k l)) in
+    record {
+      places = omega (arith, m.places, c.charge.auto.jobs, c.renew.auto.jobs);
+      rest = λ k l. after k ∙ rest_after T m.tick c.args.awake o k (get_or m.jobs k no_job) l (m.rest k l);
+      early = omega arith;
+      dues = λ k l. ap (λ (j : Job). j.due) (after k) ∙ (p k l).0;
+      releases = λ k l. ap (λ (j : Job). j.release) (after k) ∙ (p k l).1;
+      own = λ k l. ap (λ (j : Job). j.place) (after k) ∙ (p k l).2;
+    }
 
 pub returns : goal.returns
 returns c =
@@ -61,7 +51,7 @@ returns c =
     let T = loads_in m.workload in
     let o = owner T c.args.awake (λ i. (get_or m.jobs i no_job).left) m.tick in
     record {
-      answer = rw (lt-ltb m.tick 100000000 c.if-self-ge-LAST-TICK.false) c.owner-owner.ensures;
+      answer = rw (lt-ltb m.tick 100000000 c.if-self-ge-LAST_TICK.false) c.owner-owner.ensures;
       last = λ h. absurd (omega arith);
       serves = refl;
       tick = λ _. refl;

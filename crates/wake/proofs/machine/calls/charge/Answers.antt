@@ -3,8 +3,8 @@ use Rattle.wake.specs.Jobs.{no_job, spent}
 use Rattle.wake.proofs.Passes.{charged-set, charged_none}
 use Rattle.wake.proofs.machine.calls.charge.Goals as goal
 
-pub offset-bounds-jobs-place : goal.offset-bounds-jobs-place
-offset-bounds-jobs-place c = omega (arith, (c.requires.known c.in-Some.place c.in-Some.is).0)
+pub offset_bounds-jobs-place : goal.offset_bounds-jobs-place
+offset_bounds-jobs-place c = omega (arith, (c.requires.known c.in-Some.place c.in-Some.is).0)
 
 pub bounds-jobs-place : goal.bounds-jobs-place
 bounds-jobs-place c = (c.requires.known c.in-Some.place c.in-Some.is).0
@@ -17,7 +17,7 @@ returns-in-Some c = λ k.
     charged-set c.args.jobs.now c.in-Some.place _ (c.requires.known c.in-Some.place c.in-Some.is).0 refl k
     ∙ ap (λ (o : Option ℕ). spent o k (get_or c.args.jobs.now k no_job)) (sym c.in-Some.is)
 
-pub returns-in-default : goal.returns-in-default
-returns-in-default c = λ k.
+pub returns-in_default : goal.returns-in_default
+returns-in_default c = λ k.
     charged_none c.args.jobs.now k
-    ∙ ap (λ (o : Option ℕ). spent o k (get_or c.args.jobs.now k no_job)) (sym c.in-default.is)
+    ∙ ap (λ (o : Option ℕ). spent o k (get_or c.args.jobs.now k no_job)) (sym c.in_default.is)
