@@ -17,14 +17,14 @@ pub returns : goal.returns
 returns g c =
     let P = g.W.WakePlan.plan c.args.plan.now in
     let H : c.cycle-cycle.result ≡ P.cycle = c.cycle-cycle.ensures in
-    let R : c.unwrap-or-rests.result ≡ rests_in P.cycle P.awake =
-    c.unwrap-or-rests.ensures
-    ∙ (ap (λ (o : Option ℕ). unwrap_or o 0) c.rest-ticks.ensures
+    let R : c.unwrap_or-rests.result ≡ rests_in P.cycle P.awake =
+    c.unwrap_or-rests.ensures
+    ∙ (ap (λ (o : Option ℕ). unwrap_or o 0) c.rest_ticks.ensures
     ∙ (ap (λ (n : ℕ). unwrap_or (rest_ticks P.cycle P.awake 0 n) 0) H ∙ whole P.cycle P.awake)) in
-    let M : c.as-slice.result.now ≡ map (cyclic P.cycle P.awake) (range_with_len 0 P.cycle) =
-    c.as-slice.ensures.value
-    ∙ (c.in-ok-marks.ensures ∙ ap (λ (n : ℕ). map (cyclic P.cycle P.awake) (range_with_len 0 n)) H) in
-    let S : c.saturating-sub.result ≡ P.cycle - rests_in P.cycle P.awake = c.saturating-sub.ensures ∙ (λ i. H i - R i) in
-    join4 (vec_items c.args.out.now) (codes "awake") (spans_from 0 None c.as-slice.result.now) feed (counts_line c.saturating-sub.result c.unwrap-or-rests.result)
-    c.in-ok-put.ensures c.in-ok-put-spans.ensures c.in-ok-put-2.ensures c.in-ok-put-counts.ensures
+    let M : c.as_slice.result.now ≡ map (cyclic P.cycle P.awake) (range_with_len 0 P.cycle) =
+    c.as_slice.ensures.value
+    ∙ (c.in_ok-marks.ensures ∙ ap (λ (n : ℕ). map (cyclic P.cycle P.awake) (range_with_len 0 n)) H) in
+    let S : c.saturating_sub.result ≡ P.cycle - rests_in P.cycle P.awake = c.saturating_sub.ensures ∙ (λ i. H i - R i) in
+    join4 (vec_items c.args.out.now) (codes "awake") (spans_from 0 None c.as_slice.result.now) feed (counts_line c.saturating_sub.result c.unwrap_or-rests.result)
+    c.in_ok-put.ensures c.in_ok-put_spans.ensures c.in_ok-put-2.ensures c.in_ok-put_counts.ensures
     ∙ (λ i. vec_items c.args.out.now ++ (codes "awake" ++ (spans_from 0 None (M i) ++ (feed ++ counts_line (S i) (R i)))))

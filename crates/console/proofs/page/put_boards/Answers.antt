@@ -16,5 +16,5 @@ returns c =
     let L : loads_in w ≡ a.works = ap loads_in p ∙ c.works-works.ensures.loads in
     let H : turn_of w ≡ a.cycle = ap turn_of p ∙ c.works-works.ensures.cycle in
     let f = joined (first_text a) (length a.names) in
-    join2 o (awake_lines (turn_of w) (edl (loads_in w) (turn_of w))) f c.in-ok-put-awake.ensures c.in-ok-put-firsts.ensures
+    join2 o (awake_lines (turn_of w) (edl (loads_in w) (turn_of w))) f c.in_ok-put_awake.ensures c.in_ok-put_firsts.ensures
     ∙ (λ k. o ++ (awake_lines (H k) (edl (L k) (H k)) ++ f))

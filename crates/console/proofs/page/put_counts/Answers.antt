@@ -3,4 +3,4 @@ use Rattle.console.proofs.page.put_counts.Goals as goal
 
 pub returns : goal.returns
 returns c =
-    c.in-ok-put.ensures ∙ ap (λ x. vec_items c.args.out.now ++ x) (c.as-bytes.ensures.value ∙ c.in-ok-counts.ensures.ok)
+    c.in_ok-put.ensures ∙ ap (λ x. vec_items c.args.out.now ++ x) (c.as_bytes.ensures.value ∙ c.in_ok-counts.ensures.ok)

@@ -9,8 +9,8 @@ use Rattle.console.proofs.Joins.{joined_more}
 use Rattle.console.proofs.Firsts.{first_same, period_room}
 use Rattle.console.proofs.page.put_firsts.Goals as goal
 
-pub put-first-requires : goal.put-first-requires
-put-first-requires c =
+pub put_first-requires : goal.put_first-requires
+put_first-requires c =
     let a = admitted c.args.table.now in
     let i = c.loop-place.place in
     let l : i < length a.names = omega (arith, ap length c.names-place-end.ensures) in
@@ -30,7 +30,7 @@ loop-place-preserved c =
     let w : c.loads.result.now ≡ a.works = c.loads.ensures ∙ c.works.ensures.loads in
     let r' : (get_or a.works i no_load).period ≤ a.cycle = rw c.works.ensures.loads at r in
     joined_more (first_text a) i _ _ _ c.loop-place.invariant
-    (c.in-ok-put-first.ensures
+    (c.in_ok-put_first.ensures
     ∙ ((λ k. vec_items c.loop-place.out ++ first_line (get_or (c.names.ensures k) i (record { bytes = [] })) i (λ t. get_or c.args.primary.now t None) (λ t. get_or c.args.spare.now t None) (get_or (w k) i no_load).period)
     ∙ ap (λ x. vec_items c.loop-place.out ++ x)
     (first_same (get_or a.names i (record { bytes = [] })) i a.cycle (get_or a.works i no_load).period (primary_owner a) (spare_owner a) c.args.primary.now c.args.spare.now c.requires.primary c.requires.spare r')))

@@ -13,5 +13,5 @@ loop-place-preserved c =
     let w : c.loads.result.now ≡ a.works = c.loads.ensures ∙ c.works.ensures.loads in
     let e : c.loads-in-loop-place.result.now ≡ a.allowances = c.loads-in-loop-place.ensures ∙ c.allowances.ensures.loads in
     joined_more (task_text a) i _ _ _ c.loop-place.invariant
-    (c.in-ok-put-task.ensures
+    (c.in_ok-put_task.ensures
     ∙ (λ k. c.loop-place.out.items ++ task_line (get_or (c.names.ensures k) i (record { bytes = [] })) (get_or (w k) i no_load) (get_or (e k) i no_load).work))

@@ -5,7 +5,7 @@ use Rattle.console.proofs.text.put_spans.Goals as goal
 
 pub loop-t-preserved : goal.loop-t-preserved
 loop-t-preserved c =
-    c.in-ok-start.ensures (drop (c.loop-t.t + 1) c.args.marks.now)
+    c.in_ok-start.ensures (drop (c.loop-t.t + 1) c.args.marks.now)
     ∙ (sym (ap (λ x. vec_items c.loop-t.out ++ x) (at_drop_more (spans_from c.loop-t.t c.loop-t.start) c.args.marks.now c.loop-t.t false (omega arith)))
     ∙ c.loop-t.invariant)
 
@@ -16,4 +16,4 @@ returns c =
     ap (λ n. vec_items c.loop-t.out ++ spans_from n c.loop-t.start []) (sym t)
     ∙ (sym (ap (λ x. vec_items c.loop-t.out ++ x) (at_drop_all (spans_from c.loop-t.t c.loop-t.start) c.args.marks.now c.loop-t.t (omega arith)))
     ∙ c.loop-t.invariant) in
-    c.in-ok-put-last.ensures ∙ e
+    c.in_ok-put_last.ensures ∙ e

@@ -7,6 +7,6 @@ ends : (o p : List ℕ) (first t : ℕ) (start : Option ℕ) (marked : Bool) →
     p ++ spans_from (t + 1) None ms ≡ o ++ spans_from t start (marked ∷ ms)
 ends o p first t start marked s m e ms = rw (e, s, m) (append_assoc o (span_text first t) (spans_from (t + 1) None ms))
 
-pub returns-in-ok-put-span : goal.returns-in-ok-put-span
-returns-in-ok-put-span c =
-    ends _ _ c.in-Some.first c.args.t c.args.start c.args.marked c.in-Some.is c.if-marked-2.false c.in-ok-put-span.ensures
+pub returns-in_ok-put_span-in-Some : goal.returns-in_ok-put_span-in-Some
+returns-in_ok-put_span-in-Some c =
+    ends _ _ c.in-Some.first c.args.t c.args.start c.args.marked c.in-Some.is c.if-marked-2.false c.in_ok-put_span-in-Some.ensures

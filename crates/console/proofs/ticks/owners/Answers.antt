@@ -21,13 +21,13 @@ loop-t-preserved g c =
     let m = c.loop-t.machine in
     let small : tick_of m < last_tick = omega (arith, c.loop-t.invariant.1) in
     let same = c.loop-t.invariant.2 in
-    let ow : c.pass-owner.result ≡ owner T c.is-awake-awake.result (left_in m) t =
+    let ow : c.pass-owner.result ≡ owner T c.is_awake-awake.result (left_in m) t =
     (rw (lt-ltb (tick_of m) last_tick small) at c.pass-owner.ensures.answer)
-    ∙ (λ i. owner (loads_in (c.loop-t.invariant.0 i)) c.is-awake-awake.result (left_in m) (c.loop-t.invariant.1 i)) in (
+    ∙ (λ i. owner (loads_in (c.loop-t.invariant.0 i)) c.is_awake-awake.result (left_in m) (c.loop-t.invariant.1 i)) in (
       c.pass-owner.ensures.serves ∙ c.loop-t.invariant.0,
       c.pass-owner.ensures.tick small ∙ ap (λ (x : ℕ). x + 1) c.loop-t.invariant.1,
-      slots_then T W t (left_in m) same c.is-awake-awake.result (left_in c.pass-owner.new.self) c.is-awake-awake.ensures
-          (λ k. c.pass-owner.ensures.left small k ∙ (λ i. next (loads_in (c.loop-t.invariant.0 i)) c.is-awake-awake.result (left_in m) (c.loop-t.invariant.1 i) k)),
-      marked_more (owns T W) t _ _ c.pass-owner.result c.loop-t.invariant.3 c.in-ok-push.ensures.items
-          (owner_then T W t (left_in m) same c.is-awake-awake.result c.pass-owner.result c.is-awake-awake.ensures ow),
+      slots_then T W t (left_in m) same c.is_awake-awake.result (left_in c.pass-owner.new.self) c.is_awake-awake.ensures
+          (λ k. c.pass-owner.ensures.left small k ∙ (λ i. next (loads_in (c.loop-t.invariant.0 i)) c.is_awake-awake.result (left_in m) (c.loop-t.invariant.1 i) k)),
+      marked_more (owns T W) t _ _ c.pass-owner.result c.loop-t.invariant.3 c.in_ok-push.ensures.items
+          (owner_then T W t (left_in m) same c.is_awake-awake.result c.pass-owner.result c.is_awake-awake.ensures ow),
     )
