@@ -1,8 +1,8 @@
 -- One entry more in a row, against the first eligible one so far.
-use Rattle.std.proofs.Common.{◌≡◌, ℕ, ◌+◌, ◌<◌, ◌≤◌, Bool, true, false, ◌⊎◌, List, length, get_or, Some, None, Option, sym, refl, ◌∙◌, subst, inl, inr, ⊎_elim, arith, below_more}
+use Rattle.std.proofs.Common.{◌≡◌, ℕ, ◌+◌, ◌<◌, ◌≤◌, Bool, true, false, ◌⊎◌, List, length, get_or, sym, refl, ◌∙◌, subst, inl, inr, ⊎_elim, arith, below_more}
 use Rattle.std.proofs.lemmas.List.{get_or_default}
 use Rattle.std.proofs.lemmas.Bool.{cases_Bool}
-use Rattle.basis.specs.Picks.{First, Picked}
+use Rattle.basis.specs.Picks.{First}
 
 module _
     {X : Type 0} (eligible : X → Bool) (before : X → X → Bool) (key : X → List ℕ)

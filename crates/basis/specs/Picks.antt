@@ -1,5 +1,5 @@
 -- The first eligible entry of a row in a total order.
-use Rattle.std.specs.Prelude.{◌≡◌, ℕ, ◌<◌, ◌≤◌, Bool, true, false, ◌⊎◌, List, length, Some, None, Option, slice_index_or}
+use Rattle.std.specs.Prelude.{◌≡◌, ℕ, ◌<◌, ◌≤◌, Bool, true, false, ◌⊎◌, List, Some, None, Option, slice_index_or}
 
 -- of the first n entries, the one at b is eligible and comes before every other eligible one;
 -- only an entry with one and the same key, standing after it, does not come after it

@@ -1,5 +1,5 @@
 -- The line of a first job depends only on the owners of the ticks up to its deadline.
-use Rattle.std.proofs.Common.{◌≡◌, ℕ, ◌+◌, ◌<◌, ◌≤◌, Bool, false, List, [], ◌∷◌, ◌++◌, map, length, get_or, Some, None, codes, Option, sym, refl, ap, ◌∙◌, arith, length-take}
+use Rattle.std.proofs.Common.{◌≡◌, ℕ, ◌<◌, ◌≤◌, Bool, false, List, ◌++◌, map, length, get_or, None, codes, Option, ap, ◌∙◌, arith, length-take}
 use Rattle.std.specs.List.{range_with_len}
 use Rattle.std.proofs.lemmas.List.FromFn.{length-map-range_with_len, get_or-map-range_with_len, fill_by_all}
 use Rattle.grammar.specs.Names.{spelled}
@@ -11,7 +11,7 @@ use Rattle.table.specs.declared.workload.Workload.{Workload}
 use Rattle.table.specs.Tables.{admitted}
 use Rattle.table.specs.Workloads.{loads_in, turn_of}
 use Rattle.table.proofs.Facts.{period-within}
-use Rattle.console.specs.Spans.{spans_from, spans_of}
+use Rattle.console.specs.Spans.{spans_from}
 use Rattle.console.specs.Pages.{feed, first_line}
 
 -- tests that agree below n mark the same ticks

@@ -1,9 +1,9 @@
 -- Lists that are made tick by tick.
-use Rattle.std.proofs.Common.{◌≡◌, ℕ, suc, ◌+◌, Bool, true, false, List, [], ◌∷◌, ◌++◌, map, Some, None, Option, sym, refl, ap, ◌∙◌, add-one, arith}
+use Rattle.std.proofs.Common.{◌≡◌, ℕ, ◌+◌, Bool, List, [], ◌∷◌, ◌++◌, map, Option, sym, ◌∙◌, add-one, arith}
 use Rattle.std.specs.List.{range_with_len}
 use Rattle.std.proofs.lemmas.List.FromFn.{map-range_with_len_more}
 use Rattle.theory.specs.Loads.{Loads}
-use Rattle.theory.specs.Slots.{is, owner, next, slots, owns}
+use Rattle.theory.specs.Slots.{owner, next, slots, owns}
 
 -- one tick more
 pub marked_more : {X : Type 0} (f : ℕ → X) (t : ℕ) (before after : List X) (x : X) → before ≡ map f (range_with_len 0 t) → after ≡ before ++ x ∷ [] → x ≡ f t →

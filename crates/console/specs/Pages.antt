@@ -107,4 +107,4 @@ page_text (Err f) = refusal_text f
 
 -- the table that a machine file means: its sheet, admitted; or the first refusal
 unfoldable pub table_in : List ℕ → Result Admitted Fault
-table_in text = bind (read_of text) (λ x. admit_of x.0)
+table_in text = bind (read_of text) admit_of

@@ -187,7 +187,7 @@ fn admit(text: &[u8], table: &mut Table) -> Result<(), Fault>
     ensures { MatchResult result (λ _. table_in text.now ≡ Ok (admitted table.new)) (λ fault. table_in text.now ≡ Err fault) }
 {
     let mut sheet = Sheet::blank();
-    let _script = sheet.read(text)?;
+    sheet.read(text)?;
     table.admit(&sheet)?;
     Ok(())
 }

@@ -6,7 +6,7 @@ use Rattle.grammar.specs.declared.section.Section.TheVariants.{Levels, Tasks}
 use Rattle.grammar.specs.Binds.{bind}
 use Rattle.grammar.specs.Bodies.{Told, bodies_of}
 use Rattle.grammar.specs.Contents.{Listed, contents_of}
-use Rattle.grammar.specs.Files.{content_of, read_of, answer_of, filled_by, script_line}
+use Rattle.grammar.specs.Files.{content_of, file_of, unread_of, content_after, script_start}
 use Rattle.grammar.specs.Grammar.{Sequence, Announces, Formed, heading_line, LevelRight, TaskRight, Means}
 use Rattle.grammar.specs.Passes.{bad_level, bad_task, rising_from, apart_from}
 use Rattle.grammar.specs.Refusals.{NotOfForm, layout, BodiesFault, LevelFault, TaskFault, AtFault, layer_of, Refused, ReadAs}
@@ -139,7 +139,7 @@ module _ (text : List ℕ) where
   -- ## What is read
 
   -- a text that is accepted means what is read, and no line of it is at fault
-  accepted : (c : Content) (script : Lines) → read_of text ≡ Ok (c, script) → Means text c script × ((n i : ℕ) → AtFault text n i → ⊥)
+  accepted : (c : Content) (script : Lines) → file_of text ≡ Ok (c, script) → Means text c script × ((n i : ℕ) → AtFault text n i → ⊥)
   accepted c script e =
       let k₁ = bind_ok (bytes_from 0 0 text) (λ _. after_bytes) (c, script) e in
       let k₂ = bind_ok (contents_of (lines text)) after_contents (c, script) k₁.2 in
@@ -170,7 +170,7 @@ module _ (text : List ℕ) where
       none clean s rest h x b f ls ts (suc (suc (suc (suc (suc (suc n)))))) i w = w
 
   -- a text that means something is accepted with it
-  meant : (c : Content) (script : Lines) → Means text c script → read_of text ≡ Ok (c, script)
+  meant : (c : Content) (script : Lines) → Means text c script → file_of text ≡ Ok (c, script)
   meant c script m =
       let w = went m.sequence c script m.formed in
       let x : Told × Lines = (w.told, script) in
@@ -312,7 +312,7 @@ module _ (text : List ℕ) where
       subst (Refused text) (sym w.1) (record { before = w.0; line = refl; layer = refl; fault = w.2; first = w.3; earlier = earlier₁ })
 
   -- a text that is refused has its fault there
-  refused : (f : Fault) → read_of text ≡ Err f → Refused text f
+  refused : (f : Fault) → file_of text ≡ Err f → Refused text f
   refused f e =
       ⊎_elim (refused₁ f)
       (λ (k₁ : (u : Unit {0}) × (bytes_from 0 0 text ≡ Ok u) × (after_bytes ≡ Err f)).
@@ -353,28 +353,28 @@ module _ (text : List ℕ) where
       (cases_order f.number g.number)
 
   -- what reading answers and its sheet then holds is what the text means, or how it is refused
-  pub read_as : ReadAs text (answer_of (read_of text)) (filled_by (read_of text))
+  pub read_as : ReadAs text (unread_of (file_of text)) (content_after (file_of text))
   read_as =
       record {
-        accepted = λ c s h. (accepted c s (is_ok (read_of text) c s h.0 h.1)).0;
-        accepts = λ c s m. let k = meant c s m in (ap answer_of k, ap filled_by k);
-        refused = λ f h. refused f (is_err (read_of text) f h);
-        refuses = λ f h. ap answer_of (refuses (read_of text) refl f h);
+        accepted = λ c s h. (accepted c s (is_ok (file_of text) c s h.0 h.1)).0;
+        accepts = λ c s m. let k = meant c s m in (ap unread_of k, ap content_after k);
+        refused = λ f h. refused f (is_err (file_of text) f h);
+        refuses = λ f h. ap unread_of (refuses (file_of text) refl f h);
         once = λ c d s t p q.
             let k : (c, s) ≡ (d, t) = (let x = meant c s p in let y = meant d t q in cc) in
             (ap (λ (x : Content × Lines). x.0) k, ap (λ (x : Content × Lines). x.1) k);
       }
     where
-      is_ok : (r : Result (Content × Lines) Fault) (c : Content) (s : Lines) → answer_of r ≡ Ok (script_line c, s) → filled_by r ≡ c → r ≡ Ok (c, s)
+      is_ok : (r : Result (Content × Lines) Fault) (c : Content) (s : Lines) → unread_of r ≡ Ok (script_start c, s) → content_after r ≡ c → r ≡ Ok (c, s)
       is_ok (Ok x) c s h k =
-          let p : (script_line x.0, x.1) ≡ (script_line c, s) = cc in
+          let p : (script_start x.0, x.1) ≡ (script_start c, s) = cc in
           (λ i. Ok (k i, ap (λ (x : ℕ × Lines). x.1) p i))
       is_ok (Err e) c s h k = absurd (not_both h)
 
-      is_err : (r : Result (Content × Lines) Fault) (f : Fault) → answer_of r ≡ Err f → r ≡ Err f
+      is_err : (r : Result (Content × Lines) Fault) (f : Fault) → unread_of r ≡ Err f → r ≡ Err f
       is_err (Ok x) f h = absurd (not_both (sym h))
       is_err (Err e) f h = let k : e ≡ f = cc in (λ i. Err (k i))
 
-      refuses : (r : Result (Content × Lines) Fault) → read_of text ≡ r → (f : Fault) → Refused text f → r ≡ Err f
+      refuses : (r : Result (Content × Lines) Fault) → file_of text ≡ r → (f : Fault) → Refused text f → r ≡ Err f
       refuses (Ok x) e f h = absurd ((accepted x.0 x.1 e).1 f.number h.before h.fault)
       refuses (Err g) e f h = let k : g ≡ f = refused-once g f (refused g e) h in (λ i. Err (k i))

@@ -1,14 +1,14 @@
 -- What the lines of the bodies say, word by word.
 use Rattle.std.specs.Prelude.{ℕ, cond, List, Some, None, Ok, Err, Result}
 use Rattle.basis.specs.declared.fault.Fault.{Fault}
-use Rattle.grammar.specs.declared.reason.Reason.{Reason}
+use Rattle.basis.specs.declared.fault.Layer.TheVariants.{Sheet}
+use Rattle.basis.specs.Faults.{fault_of}
 use Rattle.grammar.specs.declared.task.Power.{Power}
 use Rattle.grammar.specs.declared.task.TaskLine.{TaskLine}
 use Rattle.grammar.specs.Binds.{bind}
 use Rattle.grammar.specs.Bytes.{within}
 use Rattle.grammar.specs.Tasks.{name_for}
 use Rattle.grammar.specs.Words.{Left, Next, name, number, next_word}
-use Rattle.grammar.specs.Reasons.{fault_at}
 
 -- the first word of what is left
 abbrev pub word_in : Left → Next
@@ -37,7 +37,7 @@ last_number f low high (Some (number v at, None)) = cond (within low high v) (Ok
 
 -- the fault of a line that is not of its form
 abbrev pub bad_line : ℕ → Fault
-bad_line at = fault_at Reason.Body at
+bad_line at = fault_of 3 Sheet at
 
 -- a level line: one number from 1 to 100
 abbrev pub level_of : ℕ → List ℕ → Result ℕ Fault

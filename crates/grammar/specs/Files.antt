@@ -18,9 +18,29 @@ content_of told =
       first = told.tasks.heading + 1;
     }
 
--- what a text means as a machine file, pass by pass: bytes, contents, bodies, levels, tasks; and the lines after its bodies, which may be a script
-abbrev pub read_of : List ℕ → Result (Content × Lines) Fault
+-- what a text means as a machine file, pass by pass: bytes, contents, bodies, levels, tasks
+abbrev pub read_of : List ℕ → Result Content Fault
 read_of text =
+    bind (bytes_from 0 0 text) (λ _.
+    bind (contents_of (lines text)) (λ contents.
+    bind (bodies_of contents) (λ bodies.
+    bind (rising_from bodies.0.levels.heading 0 bodies.0.levels.items) (λ _.
+    bind (apart_from (bodies.0.tasks.heading + 1) [] bodies.0.tasks.items) (λ _.
+    Ok (content_of bodies.0))))))
+
+-- what a reader of it answers
+abbrev pub answer_of : Result Content Fault → Result (Unit {0}) Fault
+answer_of (Ok c) = Ok tt
+answer_of (Err e) = Err e
+
+-- what its sheet holds then: the content, or that of the blank sheet
+abbrev pub filled_by : Result Content Fault → Content
+filled_by (Ok c) = c
+filled_by (Err e) = blank_content
+
+-- what a text means, and the lines after its bodies, which may be a script
+abbrev pub file_of : List ℕ → Result (Content × Lines) Fault
+file_of text =
     bind (bytes_from 0 0 text) (λ _.
     bind (contents_of (lines text)) (λ contents.
     bind (bodies_of contents) (λ bodies.
@@ -29,15 +49,15 @@ read_of text =
     Ok (content_of bodies.0, bodies.1))))))
 
 -- the line on which the script starts: the contents, three headings, the levels, the power line and the tasks stand before it
-abbrev pub script_line : Content → ℕ
-script_line c = 10 + length c.levels + length c.tasks
+abbrev pub script_start : Content → ℕ
+script_start c = 10 + length c.levels + length c.tasks
 
--- what a reader of it answers: the line on which the script starts, and its lines, unread as yet
-abbrev pub answer_of : Result (Content × Lines) Fault → Result (ℕ × Lines) Fault
-answer_of (Ok x) = Ok (script_line x.0, x.1)
-answer_of (Err e) = Err e
+-- what a reader of both answers: the line on which the script starts, and its lines, unread as yet
+abbrev pub unread_of : Result (Content × Lines) Fault → Result (ℕ × Lines) Fault
+unread_of (Ok x) = Ok (script_start x.0, x.1)
+unread_of (Err e) = Err e
 
--- what its sheet holds then: the content, or that of the blank sheet
-abbrev pub filled_by : Result (Content × Lines) Fault → Content
-filled_by (Ok x) = x.0
-filled_by (Err e) = blank_content
+-- what its sheet holds then
+abbrev pub content_after : Result (Content × Lines) Fault → Content
+content_after (Ok x) = x.0
+content_after (Err e) = blank_content

@@ -12,7 +12,7 @@ use Rattle.grammar.specs.declared.section.Section.TheVariants.{Levels, Power, Ta
 use Rattle.grammar.specs.declared.task.Power.{Power as PowerLine}
 use Rattle.grammar.specs.declared.task.TaskLine.{TaskLine}
 use Rattle.grammar.specs.Contents.{heading_of}
-use Rattle.grammar.specs.Files.{script_line}
+use Rattle.grammar.specs.Files.{script_start}
 use Rattle.grammar.specs.Grammar.{Pairs, IsClean, IsEntry, IsLevel, IsPower, IsTask, IsScriptLine, Sequence, Announces, Formed, heading_line, LevelRight, TaskRight, Means}
 use Rattle.grammar.specs.Sheets.{Content}
 use Rattle.grammar.specs.Texts.{Lines, lines}
@@ -133,8 +133,8 @@ pub record Refused (text : List ℕ) (f : Fault) : Type 0 where
 -- reading a text answers the line and the lines of its script, and its sheet holds c, exactly when the text means that;
 -- it answers a fault exactly when the text is refused with it; and a text means one thing
 pub record ReadAs (text : List ℕ) (answer : Result (ℕ × Lines) Fault) (sheet : Content) : Type 0 where
-  pub accepted : (c : Content) (s : Lines) → (answer ≡ Ok (script_line c, s)) × (sheet ≡ c) → Means text c s
-  pub accepts : (c : Content) (s : Lines) → Means text c s → (answer ≡ Ok (script_line c, s)) × (sheet ≡ c)
+  pub accepted : (c : Content) (s : Lines) → (answer ≡ Ok (script_start c, s)) × (sheet ≡ c) → Means text c s
+  pub accepts : (c : Content) (s : Lines) → Means text c s → (answer ≡ Ok (script_start c, s)) × (sheet ≡ c)
   pub refused : (f : Fault) → answer ≡ Err f → Refused text f
   pub refuses : (f : Fault) → Refused text f → answer ≡ Err f
   pub once : (c d : Content) (s t : Lines) → Means text c s → Means text d t → (c ≡ d) × (s ≡ t)

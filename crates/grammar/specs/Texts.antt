@@ -1,9 +1,9 @@
 -- Texts, as bytes and as lines.
 use Rattle.std.specs.Prelude.{ℕ, suc, ◌+◌, Bool, cond, ◌&&◌, ◌||◌, List, [], ◌∷◌, Ok, Err, Result, ◌==◌, nat_le, nat_lt}
 use Rattle.basis.specs.declared.fault.Fault.{Fault}
-use Rattle.grammar.specs.declared.reason.Reason.{Reason}
+use Rattle.basis.specs.declared.fault.Layer.TheVariants.{Bytes}
+use Rattle.basis.specs.Faults.{fault_of}
 use Rattle.grammar.specs.Binds.{bind}
-use Rattle.grammar.specs.Reasons.{fault_at}
 
 -- what a line may have: a letter, a digit or a space
 abbrev pub allowed : ℕ → Bool
@@ -11,7 +11,7 @@ allowed b = (nat_le 97 b && nat_le b 122) || ((nat_le 48 b && nat_le b 57) || b 
 
 -- the fault of a line with a byte that it may not have, with too many bytes, or without its line feed
 abbrev pub bad_bytes : ℕ → Fault
-bad_bytes at = fault_at Reason.Bytes at
+bad_bytes at = fault_of 1 Bytes at
 
 -- the first line that its bytes, its length or its end put at fault, where `before` lines are past, and `column` bytes of the next
 abbrev pub bytes_from : ℕ → ℕ → List ℕ → Result (Unit {0}) Fault

@@ -13,7 +13,7 @@ fn is_mark(letter: u8) -> bool
 }
 
 // The letters on a line of the script, which is line `at` of the file.
-pub fn read_letters(line: &[u8], at: usize) -> Result<Letters, Fault>
+pub fn script_line(line: &[u8], at: usize) -> Result<Letters, Fault>
     ensures { result ≡ script_line_of at line.now }
 {
     let fault = Reason::Script.at(at);

@@ -9,5 +9,5 @@ mod words;
 
 pub use entry::read_entry;
 pub use fields::{read_level, read_power, read_task};
-pub use letters::read_letters;
+pub use letters::script_line;
 pub use text::{check_bytes, next_line};

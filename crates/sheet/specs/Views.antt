@@ -7,6 +7,7 @@ use Rattle.grammar.specs.declared.task.TaskLine.{TaskLine}
 use Rattle.grammar.specs.Bodies.{Body, Told}
 use Rattle.grammar.specs.Contents.{Listed}
 use Rattle.grammar.specs.Scripts.{letters_of}
+use Rattle.grammar.specs.Sheets.{Content}
 use Rattle.grammar.specs.Texts.{Lines, lines}
 use Rattle.sheet.specs.declared.bodies.Bodies.{Bodies}
 use Rattle.sheet.specs.declared.bodies.Levels.{Levels as LevelPlaces}
@@ -14,6 +15,8 @@ use Rattle.sheet.specs.declared.bodies.Tasks.{Tasks as TaskPlaces}
 use Rattle.sheet.specs.declared.contents.Contents.{Contents}
 use Rattle.sheet.specs.declared.script.Script.{Script}
 use Rattle.sheet.specs.declared.script.ScriptText.{ScriptText}
+use Rattle.sheet.specs.declared.sheet.Sheet.{Sheet}
+use Rattle.sheet.specs.Sheets.{content}
 
 -- what was read, in the words of the format, and the lines of a text that the code borrows
 abbrev pub taken_as : {A B : Type 0} → (A → B) → Result (A × Bor (List ℕ)) Fault → Result (B × Lines) Fault
@@ -54,6 +57,11 @@ tasks_in x = record { items = take x.count x.places; heading = x.heading }
 -- what the bodies that the code has hold
 abbrev pub told_by : Bodies → Told
 told_by b = record { levels = levels_in b.levels; power = b.power; tasks = tasks_in b.tasks }
+
+-- the content of the sheet that the code has
+abbrev pub sheet_in : Result Sheet Fault → Result Content Fault
+sheet_in (Ok s) = Ok (content s)
+sheet_in (Err e) = Err e
 
 -- the line on which a script that is not read yet starts
 abbrev pub start_in : ScriptText → ℕ

@@ -8,5 +8,6 @@ mod passes;
 pub mod script;
 pub mod sheet;
 
-pub use script::{Script, ScriptText};
+pub use grammar::{Name, Power, TaskLine, name, task};
+pub use script::{Letters, Script, ScriptText, script_line};
 pub use sheet::Sheet;

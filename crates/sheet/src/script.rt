@@ -6,8 +6,9 @@ ghost use Rattle.grammar.specs.Texts.{lines};
 ghost use Rattle.sheet.specs.Views.{start_in, lines_in, passed_by, letters_in, script_in};
 
 use basis::Fault;
-use grammar::Letters;
-use lines::{next_line, read_letters};
+pub use grammar::Letters;
+use lines::next_line;
+pub use lines::script_line;
 
 // What stands after the bodies of a machine file, unread as yet. Only the reader of sheets makes one.
 #[derive(Clone, Copy)]
@@ -30,7 +31,7 @@ fn check_script(text: &[u8], first: u8) -> Result<(), Fault>
     let mut rest = text;
     let mut at = first as usize;
     while let Some((line, after)) = next_line(rest) {
-        read_letters(line, at)?;
+        script_line(line, at)?;
         rest = after;
         at += 1;
     }
@@ -68,7 +69,7 @@ impl<'a> Script<'a> {
         ensures { MatchOption result ((letters_in self.old ≡ []) × (self.new ≡ self.old)) (λ x. letters_in self.old ≡ x ∷ letters_in self.new) }
     {
         let (line, after) = next_line(self.text)?;
-        let letters = read_letters(line, 0).ok()?;
+        let letters = script_line(line, 0).ok()?;
         self.text = after;
         Some(letters)
     }

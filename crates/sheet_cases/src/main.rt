@@ -66,7 +66,7 @@ fn show(rt: &HostRuntime, name: &str) -> anyhow::Result<()> {
     let len = read_up_to(&mut fs::open(rt, name)?, &mut memory)?;
     println!(rt; "== {name}")?;
     let mut sheet = Sheet::blank();
-    match sheet.read(&memory[0..len]) {
+    match sheet.read_file(&memory[0..len]) {
         Ok(rest) => {
             show_sheet(rt, &sheet)?;
             match Script::read(rest) {

@@ -1,6 +1,6 @@
 -- Tasks as a board sees them: works and periods, by place from 0, and a cycle of them.
 -- Job j of a place, from 0, is released at tick j * period and due at (j + 1) * period.
-use Rattle.std.specs.Prelude.{◌≡◌, ℕ, ◌+◌, ◌*◌, ◌/◌, ◌%◌, ◌<◌, ◌≤◌, List, length, slice_index_or}
+use Rattle.std.specs.Prelude.{◌≡◌, ℕ, ◌*◌, ◌/◌, ◌%◌, ◌<◌, List, length, slice_index_or}
 use Rattle.theory.specs.declared.Load.{Load}
 use Rattle.theory.specs.Sums.{sum}
 

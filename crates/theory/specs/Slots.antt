@@ -1,6 +1,6 @@
 -- The slot machine of one board. Each task's current job has slots left, at its release as many as its work.
 -- In an awake tick the earliest job with slots left owns the tick and loses one slot. A job that falls due makes room for its successor.
-use Rattle.std.specs.Prelude.{ℕ, zero, suc, ◌+◌, ◌-◌, ◌*◌, ◌/◌, ◌%◌, Bool, true, false, cond, Some, None, Option, ◌==◌, nat_lt}
+use Rattle.std.specs.Prelude.{ℕ, zero, suc, ◌+◌, ◌-◌, ◌*◌, ◌/◌, ◌%◌, Bool, false, cond, Some, None, Option, ◌==◌, nat_lt}
 use Rattle.theory.specs.Sums.{bit}
 use Rattle.theory.specs.Loads.{Loads, size, work, period}
 use Rattle.theory.specs.Orders.{Key, earliest}

@@ -1,7 +1,7 @@
 -- The pick of a row of jobs is the earliest job with slots left.
-use Rattle.std.proofs.Common.{◌≡◌, ℕ, ◌<◌, ◌≤◌, Bool, true, false, cond, ltb, ◌⊎◌, List, [], ◌∷◌, length, get_or, take, Some, None, Option, sym, refl, ap, ◌∙◌, subst, inl, inr, ⊎_elim, arith}
+use Rattle.std.proofs.Common.{◌≡◌, ℕ, ◌<◌, ◌≤◌, Bool, true, ltb, List, [], ◌∷◌, length, get_or, take, Some, None, Option, sym, refl, ap, ◌∙◌, subst, ⊎_elim, arith}
 use Rattle.std.proofs.lemmas.List.{length-take-le, get_or-take}
-use Rattle.basis.specs.Picks.{First, Picked}
+use Rattle.basis.specs.Picks.{Picked}
 use Rattle.theory.specs.Loads.{Loads, size}
 use Rattle.theory.specs.Slots.{job_at, owner}
 use Rattle.theory.specs.Orders.{Key, earlier, earliest, Chosen}

@@ -1,5 +1,5 @@
 -- One tick of the slot machine, place by place.
-use Rattle.std.proofs.Common.{◌≡◌, ℕ, suc, ◌+◌, ◌-◌, ◌*◌, ◌/◌, ◌%◌, ◌<◌, ◌≤◌, Bool, true, false, cond, ◌&&◌, eqb, ltb, ◌⊎◌, List, length, get_or, set, Some, None, Option, sym, refl, ap, ◌∙◌, subst, inl, inr, ⊎_elim, mod-eq_of_lt, suc-mul, mul_comm, one-mul, zero-mul, add-one, arith, get_or-set_other, get_or-set_same}
+use Rattle.std.proofs.Common.{◌≡◌, ℕ, suc, ◌+◌, ◌-◌, ◌*◌, ◌/◌, ◌%◌, ◌<◌, ◌≤◌, Bool, true, false, cond, eqb, ltb, List, length, get_or, set, Some, None, Option, sym, refl, ap, ◌∙◌, ⊎_elim, suc-mul, mul_comm, one-mul, zero-mul, add-one, arith, get_or-set_other, get_or-set_same}
 use native.Mathlib.Nat.{zero-div, div-add-mod, mul-mod_left, sub-zero, zero-sub}
 use Rattle.std.proofs.lemmas.List.{get_or_past}
 use Rattle.std.proofs.lemmas.Bool.{cases_eq, cases_lt, lt-ltb, le-ltb, eq-eqb, ne_eqb, ltb-true}
@@ -10,7 +10,7 @@ use Rattle.theory.specs.Orders.{Chosen}
 use Rattle.theory.proofs.Orders.{earliest_chosen}
 use Rattle.theory.specs.Slots.{job_at, is, owner, charged, next}
 use Rattle.theory.proofs.Jobs.{quotient_up, quotient_stays}
-use Rattle.table.specs.Workloads.{loads_in, turn_of}
+use Rattle.table.specs.Workloads.{loads_in}
 use Rattle.table.specs.declared.workload.Workload.{Workload}
 use Rattle.table.proofs.Facts.{short_of, period-within}
 use Rattle.wake.specs.Jobs.{no_job, released, first_job, renewed, spent}

@@ -1,7 +1,6 @@
 -- What a slot machine holds. Other crates do not see its fields and speak of it by these words.
-use Rattle.std.specs.Prelude.{ℕ, ◌+◌, Bool, cond, Some, None, Option, slice_index_or}
-use Rattle.theory.specs.Loads.{Loads}
-use Rattle.theory.specs.Slots.{owner, next}
+use Rattle.std.specs.Prelude.{ℕ, Bool, Option, slice_index_or}
+use Rattle.theory.specs.Slots.{owner}
 use Rattle.table.specs.Workloads.{loads_in}
 use Rattle.table.specs.declared.workload.Workload.{Workload}
 use Rattle.wake.specs.Jobs.{no_job}

@@ -1,7 +1,7 @@
 -- What a wake plan means, and what its questions are answered.
 use Rattle.std.specs.Prelude.{ℕ, Bool, cond, not, ◌&&◌, Some, None, Option, nat_le}
 use Rattle.theory.specs.Sums.{between}
-use Rattle.theory.specs.Loads.{Loads, Cycle, load}
+use Rattle.theory.specs.Loads.{Loads, Cycle}
 use Rattle.theory.specs.Laws.{Law, always}
 use Rattle.theory.specs.Lates.{edl}
 use Rattle.theory.proofs.Awakes.{always_keeps_law}

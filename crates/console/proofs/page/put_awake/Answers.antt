@@ -1,11 +1,10 @@
-use Rattle.std.proofs.Common.{◌≡◌, ℕ, ◌-◌, Bool, true, cond, not, ◌&&◌, leb, List, ◌++◌, map, Some, None, vec_items, codes, Option, unwrap_or, sym, refl, ap, ◌∙◌, arith}
+use Rattle.std.proofs.Common.{◌≡◌, ℕ, ◌-◌, Bool, ◌++◌, map, None, vec_items, codes, Option, unwrap_or, ap, ◌∙◌, arith}
 use Rattle.std.specs.List.{range_with_len}
 use Rattle.theory.specs.Laws.{cyclic}
 use Rattle.std.proofs.lemmas.Bool.{le-leb}
-use Rattle.theory.specs.Sums.{between}
 use Rattle.wake.specs.Plans.{rest_ticks}
-use Rattle.console.specs.Spans.{spans_from, spans_of}
-use Rattle.console.specs.Pages.{feed, counts_line, rests_in, awake_lines}
+use Rattle.console.specs.Spans.{spans_from}
+use Rattle.console.specs.Pages.{feed, counts_line, rests_in}
 use Rattle.console.proofs.Joins.{join4}
 use Rattle.console.proofs.page.put_awake.Goals as goal
 

@@ -1,4 +1,4 @@
-use Rattle.std.proofs.Common.{◌≡◌, ◌++◌, vec_items, ap, ◌∙◌}
+use Rattle.std.proofs.Common.{◌++◌, vec_items, ap, ◌∙◌}
 use Rattle.console.proofs.page.put_counts.Goals as goal
 
 pub returns : goal.returns

@@ -1,4 +1,4 @@
-use Rattle.std.proofs.Common.{◌≡◌, ℕ, ◌++◌, map, get_or, None, vec_items, codes, ◌∙◌}
+use Rattle.std.proofs.Common.{◌≡◌, ◌++◌, map, get_or, None, vec_items, codes, ◌∙◌}
 use Rattle.std.specs.List.{range_with_len}
 use Rattle.theory.specs.Slots.{is}
 use Rattle.console.specs.Spans.{spans_from}

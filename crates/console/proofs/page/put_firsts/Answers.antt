@@ -1,9 +1,7 @@
-use Rattle.std.proofs.Common.{◌≡◌, ℕ, ◌<◌, ◌≤◌, [], ◌++◌, length, get_or, None, vec_items, Option, sym, ap, ◌∙◌, arith}
+use Rattle.std.proofs.Common.{◌≡◌, ◌<◌, ◌≤◌, [], ◌++◌, length, get_or, None, vec_items, ap, ◌∙◌, arith}
 use Rattle.std.proofs.lemmas.List.FromFn.{length-map-range_with_len}
-use Rattle.theory.specs.Loads.{size, period, no_load}
+use Rattle.theory.specs.Loads.{no_load}
 use Rattle.table.specs.Tables.{admitted}
-use Rattle.table.specs.Workloads.{loads_in, turn_of}
-use Rattle.table.proofs.Facts.{period-within}
 use Rattle.console.specs.Pages.{first_line, first_text, primary_owner, spare_owner}
 use Rattle.console.proofs.Joins.{joined_more}
 use Rattle.console.proofs.Firsts.{first_same, period_room}

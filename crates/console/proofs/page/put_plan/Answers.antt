@@ -1,4 +1,4 @@
-use Rattle.std.proofs.Common.{◌≡◌, ◌++◌, length, vec_items, ap, ◌∙◌, append_assoc}
+use Rattle.std.proofs.Common.{◌≡◌, ◌++◌, length, vec_items, ap, ◌∙◌}
 use Rattle.table.specs.Tables.{admitted}
 use Rattle.console.specs.Pages.{head_lines, task_text, awake_text, first_text, joined, plan_text}
 use Rattle.console.proofs.Joins.{join2}

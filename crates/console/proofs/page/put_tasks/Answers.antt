@@ -1,5 +1,5 @@
 use Rattle.std.proofs.Common.{◌≡◌, [], ◌++◌, get_or, ◌∙◌}
-use Rattle.theory.specs.Loads.{Loads, no_load}
+use Rattle.theory.specs.Loads.{no_load}
 use Rattle.table.specs.Tables.{admitted}
 use Rattle.console.specs.Pages.{task_line, task_text}
 use Rattle.console.proofs.Joins.{joined_more}

@@ -1,11 +1,9 @@
-use Rattle.std.proofs.Common.{◌≡◌, ℕ, ◌+◌, ◌<◌, Bool, sym, refl, ap, ◌∙◌, arith}
+use Rattle.std.proofs.Common.{◌≡◌, ℕ, ◌+◌, ◌<◌, Bool, ap, ◌∙◌, arith}
 use Rattle.std.proofs.lemmas.Bool.{lt-ltb}
 use Rattle.theory.specs.Laws.{cyclic}
 use Rattle.theory.specs.Slots.{owns, slots, owner, next}
-use Rattle.theory.specs.Loads.{Loads}
 use Rattle.table.specs.Workloads.{loads_in}
-use Rattle.table.specs.declared.workload.Workload.{Workload}
-use Rattle.wake.specs.Machines.{serves_of, tick_of, left_in, owner_in, last_tick}
+use Rattle.wake.specs.Machines.{tick_of, left_in, last_tick}
 use Rattle.console.proofs.Marks.{marked_more, owner_then, slots_then}
 use Rattle.console.proofs.ticks.owners.Goals as goal
 

@@ -1,4 +1,4 @@
-use Rattle.std.proofs.Common.{◌≡◌, ℕ, ◌+◌, ◌<◌, [], length, drop, sym, refl, ◌∙◌, arith, length-drop}
+use Rattle.std.proofs.Common.{sym, refl, ◌∙◌, arith, length-drop}
 use Rattle.std.proofs.lemmas.List.{take_more_set, drop-set-lt, drop-drop, drop_all}
 use Rattle.basis.proofs.filling.Filling.push.Goals as goal
 

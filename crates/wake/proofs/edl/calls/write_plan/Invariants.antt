@@ -1,4 +1,4 @@
-use Rattle.std.proofs.Common.{◌≡◌, ℕ, ◌-◌, ◌<◌, ◌≤◌, length, get_or}
+use Rattle.std.proofs.Common.{◌≡◌, ℕ, ◌-◌, ◌<◌, ◌≤◌, get_or}
 use Rattle.theory.specs.Sums.{bit}
 use Rattle.theory.specs.Lates.{backlog, edl}
 use Rattle.table.specs.Workloads.{loads_in, turn_of}

@@ -1,10 +1,10 @@
-use Rattle.std.proofs.Common.{◌≡◌, ℕ, ◌+◌, ◌<◌, ◌≤◌, Bool, cond, length, get_or, Option, sym, refl, ap, ◌∙◌, subst, arith}
+use Rattle.std.proofs.Common.{ℕ, ◌+◌, ◌<◌, get_or, sym, refl, ap, ◌∙◌, arith}
 use Rattle.std.proofs.lemmas.Bool.{lt-ltb}
 use Rattle.table.proofs.Facts.{few_of, cycle_of_lem}
 use Rattle.table.specs.Workloads.{loads_in}
-use Rattle.theory.specs.Loads.{Loads, size}
+use Rattle.theory.specs.Loads.{size}
 use Rattle.theory.specs.Slots.{owner}
-use Rattle.wake.specs.Jobs.{no_job, renewed, spent}
+use Rattle.wake.specs.Jobs.{no_job}
 use Rattle.wake.specs.declared.job.Job.{Job}
 use Rattle.wake.proofs.Passes.{period_short, passed, left_after, rest_after, owner_waits, composed}
 use Rattle.wake.proofs.machine.SlotMachine.pass.Goals as goal

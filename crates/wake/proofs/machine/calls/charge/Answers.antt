@@ -1,4 +1,4 @@
-use Rattle.std.proofs.Common.{◌≡◌, ℕ, ◌<◌, get_or, Some, None, Option, sym, refl, ap, ◌∙◌, arith}
+use Rattle.std.proofs.Common.{ℕ, get_or, Option, sym, refl, ap, ◌∙◌, arith}
 use Rattle.wake.specs.Jobs.{no_job, spent}
 use Rattle.wake.proofs.Passes.{charged-set, charged_none}
 use Rattle.wake.proofs.machine.calls.charge.Goals as goal

@@ -1,4 +1,4 @@
-use Rattle.std.proofs.Common.{◌≡◌, ℕ, cond, ◌&&◌, eqb, ltb, length, get_or}
+use Rattle.std.proofs.Common.{◌≡◌, ℕ, cond, ◌&&◌, eqb, ltb, get_or}
 use Rattle.theory.specs.Loads.{no_load}
 use Rattle.wake.specs.Jobs.{no_job, released}
 use Rattle.wake.proofs.machine.calls.renew.Given as goal

@@ -1,4 +1,4 @@
-use Rattle.std.proofs.Common.{◌≡◌, ◌%◌, ◌<◌, ap, ◌∙◌, mod-lt, arith}
+use Rattle.std.proofs.Common.{◌%◌, ◌<◌, ap, ◌∙◌, mod-lt, arith}
 use Rattle.theory.specs.Laws.{cyclic}
 use Rattle.theory.specs.Lates.{edl}
 use Rattle.table.specs.Workloads.{loads_in, turn_of}

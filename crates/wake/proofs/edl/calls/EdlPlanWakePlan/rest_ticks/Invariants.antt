@@ -1,4 +1,4 @@
-use Rattle.std.proofs.Common.{◌≡◌, ℕ, ◌+◌, ◌≤◌, not}
+use Rattle.std.proofs.Common.{◌≡◌, ◌+◌, ◌≤◌, not}
 use Rattle.theory.specs.Sums.{number}
 use Rattle.theory.specs.Lates.{edl}
 use Rattle.table.specs.Workloads.{loads_in, turn_of}
