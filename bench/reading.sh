@@ -1,15 +1,16 @@
 #!/usr/bin/env bash
 # Measures what reading costs: nanoseconds of processor time per byte of Sheet::read, beside a plain scan for line feeds in C,
 # over the same machine files in the same run. A long and a short file show whether the cost grows with the bytes alone.
-# Usage: bench/reading.sh [TURNS]   how often the long file is read in a run (20000); `rt check read_many` builds what is measured.
+# Usage: bench/reading.sh [TURNS]   how often the long file is read in a run (20000); it builds the program read_many first, if it is not built yet.
 set -eu
 cd "$(dirname "$0")/.."
 turns=${1:-20000}
 runs=7
 
-if [ ! -x target/bin/read_many ]; then
+read_many=crates/read_many/out/read_many
+if [ ! -x "$read_many" ]; then
     echo "proving and building read_many, which takes some minutes" >&2
-    rt check read_many >&2
+    (cd crates/read_many && rt run -- 0 < stdin) >&2
 fi
 room=$(mktemp -d)
 trap 'rm -rf "$room"' EXIT
@@ -43,13 +44,13 @@ measure() {
     local file=$1 n=$2 read='' read_none='' scan='' scan_none='' bytes
     bytes=$(wc -c < "$file")
     for _ in $(seq "$runs"); do
-        read=$(least "$read" "$(cost target/bin/read_many "$n" "$file")")
+        read=$(least "$read" "$(cost "$read_many" "$n" "$file")")
         if [ "$(cat "$room/out")" != "accepted $n of $n" ]; then
             echo "read_many did not accept the file $n times" >&2
             exit 1
         fi
         scan=$(least "$scan" "$(cost "$room/scan" "$n" "$file")")
-        read_none=$(least "$read_none" "$(cost target/bin/read_many 0 "$file")")
+        read_none=$(least "$read_none" "$(cost "$read_many" 0 "$file")")
         scan_none=$(least "$scan_none" "$(cost "$room/scan" 0 "$file")")
     done
     awk -v bytes="$bytes" -v n="$n" -v read="$((read - read_none))" -v scan="$((scan - scan_none))" 'BEGIN {

@@ -1,7 +1,7 @@
 #!/usr/bin/env python3
 """Has the built program `sheet_cases` read random machine files, whole and damaged, and compares what it prints with tests/model.py.
 
-Usage: compare_sheets.py [COUNT [SEED]]   after `rt check sheet_cases`; ends with status 1 at the first difference, which it keeps.
+Usage: compare_sheets.py [COUNT [SEED]]   after `rt run` in crates/sheet_cases; ends with status 1 at the first difference, which it keeps.
 """
 import os
 import random
@@ -14,7 +14,7 @@ sys.path.insert(0, os.path.dirname(os.path.abspath(__file__)))
 import model
 from compare_spare import damaged, whole
 
-PROGRAM = os.path.join(os.path.dirname(os.path.abspath(__file__)), "..", "target", "bin", "sheet_cases")
+PROGRAM = os.path.join(os.path.dirname(os.path.abspath(__file__)), "..", "crates", "sheet_cases", "out", "sheet_cases")
 BATCH = 200
 
 

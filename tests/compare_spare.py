@@ -1,7 +1,7 @@
 #!/usr/bin/env python3
 """Feeds the built program `spare` random machine files, whole and damaged, and compares what it prints with tests/model.py.
 
-Usage: compare_spare.py [COUNT [SEED]]   after `rt check spare`; ends with status 1 at the first difference, which it keeps.
+Usage: compare_spare.py [COUNT [SEED]]   after `rt run` in crates/spare; ends with status 1 at the first difference, which it keeps.
 """
 import os
 import random
@@ -12,7 +12,7 @@ sys.dont_write_bytecode = True
 sys.path.insert(0, os.path.dirname(os.path.abspath(__file__)))
 import model
 
-PROGRAM = os.path.join(os.path.dirname(os.path.abspath(__file__)), "..", "target", "bin", "spare")
+PROGRAM = os.path.join(os.path.dirname(os.path.abspath(__file__)), "..", "crates", "spare", "out", "spare")
 SHORT = [1, 2, 3, 4, 5, 6, 8, 10, 12, 15, 20, 24, 30, 40, 60, 120]
 LONG = [p for p in range(1, 30001) if 30000 % p == 0]
 

@@ -6,11 +6,11 @@ top=$(cd "$(dirname "$0")/.." && pwd)
 room=$(mktemp -d)
 trap 'rm -rf "$room"' EXIT
 
-for crate in basis theory grammar sheet table; do
+for crate in basis theory grammar lines sheet table; do
     mkdir -p "$room/crates/$crate"
     cp -R "$top/crates/$crate/src" "$top/crates/$crate/specs" "$top/crates/$crate/proofs" "$room/crates/$crate/"
 done
-grep -E '^(basis|theory|grammar|sheet|table):' "$top/crates.txt" > "$room/crates.txt"
+grep -E '^(basis|theory|grammar|lines|sheet|table):' "$top/crates.txt" > "$room/crates.txt"
 
 # expect NAME DEPS ACCEPTED REFUSED ERROR < SOURCE: the source with the line ACCEPTED in place of @LINE@ is accepted,
 # and with REFUSED it is refused with ERROR.
@@ -20,13 +20,13 @@ expect() {
     mkdir -p "$room/crates/$name/src"
     echo "$name: $deps" >> "$room/crates.txt"
     printf '%s\n' "${source/@LINE@/$accepted}" > "$room/crates/$name/src/lib.rt"
-    if ! (cd "$room" && rt dev "$name") > "$room/out" 2>&1; then
+    if ! (cd "$room/crates/$name" && rt check) > "$room/out" 2>&1; then
         tail -n 20 "$room/out"
         echo "$name: the accepted twin was refused"
         exit 1
     fi
     printf '%s\n' "${source/@LINE@/$refused}" > "$room/crates/$name/src/lib.rt"
-    if (cd "$room" && rt dev "$name") > "$room/out" 2>&1; then
+    if (cd "$room/crates/$name" && rt check) > "$room/out" 2>&1; then
         echo "$name: the program that must be refused was accepted"
         exit 1
     fi
@@ -39,7 +39,7 @@ expect() {
 }
 
 # a sheet that was merely read is no admitted table
-expect merely_read "basis theory grammar sheet table" 'cycle(table)' 'cycle(sheet)' 'mismatched-types' << 'RT'
+expect merely_read "basis theory grammar lines sheet table" 'cycle(table)' 'cycle(sheet)' 'mismatched-types' << 'RT'
 use sheet::Sheet;
 use table::Table;
 

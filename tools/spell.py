@@ -50,11 +50,27 @@ def spelled(name, names):
     return out
 
 
+def crate(path):
+    return path.split("/crates/")[1].split("/")[0]
+
+
+def below(root):
+    """Of each crate, itself and the crates that it knows."""
+    lines = [l.split("#")[0].split(":") for l in open(os.path.join(root, "crates.txt")) if ":" in l.split("#")[0]]
+    return {l[0].strip(): {l[0].strip(), *l[1].split()} for l in lines}
+
+
 def main(argv):
     root = next((a for a in argv if not a.startswith("-")), ".")
     found = declared(root)
-    names = set(NAMES) | {snake(n) for n, where in found.items() if "-" not in n and any("/specs/" in p for p in where)}
-    turn = {n: LEMMAS.get(n) or spelled(spelled(n, names), names) for n in found}
+    known = below(root)
+
+    def names(n):
+        """The words that are names where n is declared."""
+        seen = set.union(*(known[crate(p)] for p in found[n]))
+        return set(NAMES) | {snake(m) for m, where in found.items() if "-" not in m and any("/specs/" in p and crate(p) in seen for p in where)}
+
+    turn = {n: LEMMAS.get(n) or spelled(spelled(n, names(n)), names(n)) for n in found}
     turn = {a: b for a, b in turn.items() if a != b}
     for a, b in sorted(turn.items()):
         if "--list" in argv:

@@ -183,6 +183,7 @@ fn put_plan(out: &mut Vec<u8>, heap: Global, table: &Table) -> Result<(), AllocE
 }
 
 // Reads a machine file and admits its table. A refusal leaves the table what it was.
+#[tactic(auto, using(crate::proofs::Tables::table_refused, crate::proofs::Tables::table_done))]
 fn admit(text: &[u8], table: &mut Table) -> Result<(), Fault>
     ensures { MatchResult result (λ _. table_in text.now ≡ Ok (admitted table.new)) (λ fault. table_in text.now ≡ Err fault) }
 {

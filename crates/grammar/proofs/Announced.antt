@@ -206,8 +206,8 @@ module _ (ls : Lines) where
   wrong_again i j a b p q h k e r = r.once j a p q h (e ∙ ap (λ (e : Entry). e.section) (at_once ls i b r.entry k r.here))
 
 -- every line of contents that pass is right
-pub contents-right : (ls : Lines) (s : Sequence) (rest : Lines) → Announces ls s rest → (i : ℕ) → ContentsRight ls i
-contents-right ls s rest h = rights
+pub contents_right : (ls : Lines) (s : Sequence) (rest : Lines) → Announces ls s rest → (i : ℕ) → ContentsRight ls i
+contents_right ls s rest h = rights
   where
     at₁ : EntryAt ls 1 s.first
     at₁ = (h.one, ap (λ (ls : Lines). slice_get ls 1) h.lines, h.first)

@@ -123,15 +123,15 @@ module _ {T : Type 0} (r : Reads T) where
         (bind_err (first_of (bad_line at) (r.of at) ls) (λ y. items_from r.of (at + 1) count (got ++ y.0 ∷ []) y.1) f h)
 
     -- of lines that say items, none is not of its form
-    pub items-right : (front : Lines) (items : List T) (more : List Form) (rest : Lines) → Pairs r.Is front items
+    pub items_right : (front : Lines) (items : List T) (more : List Form) (rest : Lines) → Pairs r.Is front items
         → ((k : ℕ) → NotOfForm more rest k → ⊥) → (k : ℕ) → NotOfForm (replicate (length front) (item s) ++ more) (front ++ rest) k → ⊥
-    items-right [] [] more rest h after k w = after k w
-    items-right [] (x ∷ items) more rest h after k w = absurd h
-    items-right (l ∷ front) [] more rest h after k w = absurd h
-    items-right (l ∷ front) (x ∷ items) more rest h after zero w =
+    items_right [] [] more rest h after k w = after k w
+    items_right [] (x ∷ items) more rest h after k w = absurd h
+    items_right (l ∷ front) [] more rest h after k w = absurd h
+    items_right (l ∷ front) (x ∷ items) more rest h after zero w =
         let same : item s ≡ w.0 = (let q = w.1 in cc) in
         w.2 l refl (subst (λ (x : Form). OfForm x l) same (forward l x h.0))
-    items-right (l ∷ front) (x ∷ items) more rest h after (suc k) w = items-right front items more rest h.1 after k w
+    items_right (l ∷ front) (x ∷ items) more rest h after (suc k) w = items_right front items more rest h.1 after k w
 
     -- nor is the first after them
     pub items_past : (front : Lines) (items : List T) (more : List Form) (rest : Lines) (at : ℕ) (f : Fault) → Pairs r.Is front items
@@ -267,9 +267,9 @@ section_not Tasks at count told ls more f few most h =
 -- of a body that is told, no line is not of its form; and the first that is not is after it
 section_right : (s : Section) (at : ℕ) (told : Told) (body : Lines) (more : List Form) (rest : Lines) → Has s told body at
     → ((k : ℕ) → NotOfForm more rest k → ⊥) → (k : ℕ) → NotOfForm (replicate (length body) (item s) ++ more) (body ++ rest) k → ⊥
-section_right Levels at told body more rest h = items-right level_reads Levels (λ l x is. (x, is)) (λ l form. form) body told.levels.items more rest h.0
-section_right Power at told body more rest h = items-right power_reads Power (λ l x is. (x, is)) (λ l form. form) body (told.power ∷ []) more rest h.0
-section_right Tasks at told body more rest h = items-right task_reads Tasks (λ l x is. (x, is)) (λ l form. form) body told.tasks.items more rest h.0
+section_right Levels at told body more rest h = items_right level_reads Levels (λ l x is. (x, is)) (λ l form. form) body told.levels.items more rest h.0
+section_right Power at told body more rest h = items_right power_reads Power (λ l x is. (x, is)) (λ l form. form) body (told.power ∷ []) more rest h.0
+section_right Tasks at told body more rest h = items_right task_reads Tasks (λ l x is. (x, is)) (λ l form. form) body told.tasks.items more rest h.0
 
 section_past : (s : Section) (at to : ℕ) (told : Told) (body : Lines) (more : List Form) (rest : Lines) (f : Fault) → Has s told body at
     → FirstNot more rest (to + length body) f → FirstNot (replicate (length body) (item s) ++ more) (body ++ rest) to f
@@ -340,9 +340,9 @@ body_past e at told ls x es f h after =
     (not_later (heading e.section) (replicate e.count (item e.section) ++ layout es) (heading_of e.section) (h.body ++ x.1) at f refl
     (subst (λ n. FirstNot (replicate n (item e.section) ++ layout es) (h.body ++ x.1) (at + 1) f) h.counted more))
 
-pub body-right : (e : Entry) (at : ℕ) (told : Told) (ls : Lines) (x : Told × Lines) (es : List Entry) → Passed e at told ls x
+pub body_right : (e : Entry) (at : ℕ) (told : Told) (ls : Lines) (x : Told × Lines) (es : List Entry) → Passed e at told ls x
     → ((k : ℕ) → NotOfForm (layout es) x.1 k → ⊥) → (k : ℕ) → NotOfForm (layout (e ∷ es)) ls k → ⊥
-body-right e at told ls x es h after k w = rights k (subst (λ (ls : Lines). NotOfForm (layout (e ∷ es)) ls k) h.lines w)
+body_right e at told ls x es h after k w = rights k (subst (λ (ls : Lines). NotOfForm (layout (e ∷ es)) ls k) h.lines w)
   where
     rights : (k : ℕ) → NotOfForm (layout (e ∷ es)) (heading_of e.section ∷ (h.body ++ x.1)) k → ⊥
     rights zero w =

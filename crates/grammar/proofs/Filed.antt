@@ -12,7 +12,7 @@ use Rattle.grammar.specs.Passes.{bad_level, bad_task, rising_from, apart_from}
 use Rattle.grammar.specs.Refusals.{NotOfForm, layout, BodiesFault, LevelFault, TaskFault, AtFault, layer_of, Refused, ReadAs}
 use Rattle.grammar.specs.Sheets.{Content}
 use Rattle.grammar.specs.Texts.{Lines, lines, bytes_from}
-use Rattle.grammar.proofs.Announced.{listed, sequence_of, contents-sound, contents_complete, contents-right, contents_fail}
+use Rattle.grammar.proofs.Announced.{listed, sequence_of, contents-sound, contents_complete, contents_right, contents_fail}
 use Rattle.grammar.proofs.Bodied.{Counted}
 use Rattle.grammar.proofs.Bound.{not_both, bind_ok, bind_then, bind_err, bind-last}
 use Rattle.grammar.proofs.Cleaned.{bytes_pass, bytes-sound, bytes_fail, bytes_complete, lines_of}
@@ -163,7 +163,7 @@ module _ (text : List ℕ) where
           → ((k : ℕ) → k < length x.0.tasks.items → TaskRight x.0.tasks.items k) → (n i : ℕ) → AtFault text n i → ⊥
       none clean s rest h x b f ls ts zero i w = w
       none clean s rest h x b f ls ts (suc zero) i w = bytes-sound text clean i w
-      none clean s rest h x b f ls ts (suc (suc zero)) i w = w (contents-right (lines text) s rest h i)
+      none clean s rest h x b f ls ts (suc (suc zero)) i w = w (contents_right (lines text) s rest h i)
       none clean s rest h x b f ls ts (suc (suc (suc zero))) i w = none₃ s rest h x b i w
       none clean s rest h x b f ls ts (suc (suc (suc (suc zero)))) i w = none₄ s (content_of x.0) x.1 f ls i w
       none clean s rest h x b f ls ts (suc (suc (suc (suc (suc zero))))) i w = none₅ s (content_of x.0) x.1 f ts i w
@@ -202,7 +202,7 @@ module _ (text : List ℕ) where
       earlier₃ : (n i : ℕ) → n < 3 → AtFault text n i → ⊥
       earlier₃ zero i h w = w
       earlier₃ (suc zero) i h w = bytes-sound text clean i w
-      earlier₃ (suc (suc zero)) i h w = w (contents-right (lines text) s rest a i)
+      earlier₃ (suc (suc zero)) i h w = w (contents_right (lines text) s rest a i)
       earlier₃ (suc (suc (suc n))) i h w = absurd (omega arith)
 
       -- a line of the bodies
@@ -229,7 +229,7 @@ module _ (text : List ℕ) where
         earlier₄ : (n i : ℕ) → n < 4 → AtFault text n i → ⊥
         earlier₄ zero i h w = w
         earlier₄ (suc zero) i h w = bytes-sound text clean i w
-        earlier₄ (suc (suc zero)) i h w = w (contents-right (lines text) s rest a i)
+        earlier₄ (suc (suc zero)) i h w = w (contents_right (lines text) s rest a i)
         earlier₄ (suc (suc (suc zero))) i h w = none₃ s rest a x b i w
         earlier₄ (suc (suc (suc (suc n)))) i h w = absurd (omega arith)
 
@@ -265,7 +265,7 @@ module _ (text : List ℕ) where
           earlier₅ : (n i : ℕ) → n < 5 → AtFault text n i → ⊥
           earlier₅ zero i h w = w
           earlier₅ (suc zero) i h w = bytes-sound text clean i w
-          earlier₅ (suc (suc zero)) i h w = w (contents-right (lines text) s rest a i)
+          earlier₅ (suc (suc zero)) i h w = w (contents_right (lines text) s rest a i)
           earlier₅ (suc (suc (suc zero))) i h w = none₃ s rest a x b i w
           earlier₅ (suc (suc (suc (suc zero)))) i h w = none₄ s (content_of x.0) x.1 form ((levels_of s rest a x b).passes rises) i w
           earlier₅ (suc (suc (suc (suc (suc n))))) i h w = absurd (omega arith)

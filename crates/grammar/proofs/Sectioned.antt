@@ -16,7 +16,7 @@ use Rattle.grammar.specs.Refusals.{layout, NotOfForm}
 use Rattle.grammar.specs.Sheets.{Content}
 use Rattle.grammar.specs.Texts.{Lines}
 use Rattle.grammar.proofs.Announced.{heading-other, listed}
-use Rattle.grammar.proofs.Bodied.{FirstNot, Has, has_same, pairs_once, level_reads, power_reads, task_reads, Counted, Passed, body_ok, body_there, body_not, body_past, body-right}
+use Rattle.grammar.proofs.Bodied.{FirstNot, Has, has_same, pairs_once, level_reads, power_reads, task_reads, Counted, Passed, body_ok, body_there, body_not, body_past, body_right}
 use Rattle.grammar.proofs.Bound.{bind_ok, bind_then, bind_err}
 use Rattle.grammar.proofs.Fronts.{nowhere}
 
@@ -180,9 +180,9 @@ module _ (s : Sequence) (other₁₂ : s.first.section ≢ s.second.section) (ot
           some = first.0;
           least = first.1;
           right =
-              body-right s.first 6 untold rest t.a (s.second ∷ s.third ∷ []) t.first
-              (body-right s.second (7 + s.first.count) t.a.0 t.a.1 t.b (s.third ∷ []) t.second
-              (body-right s.third (8 + s.first.count + s.second.count) t.b.0 t.b.1 x [] t.third (λ k w. nowhere w.1)));
+              body_right s.first 6 untold rest t.a (s.second ∷ s.third ∷ []) t.first
+              (body_right s.second (7 + s.first.count) t.a.0 t.a.1 t.b (s.third ∷ []) t.second
+              (body_right s.third (8 + s.first.count + s.second.count) t.b.0 t.b.1 x [] t.third (λ k w. nowhere w.1)));
         }
 
     -- bodies that say it pass

@@ -21,13 +21,13 @@ use Rattle.grammar.proofs.Bound.{bind_then}
 use Rattle.grammar.proofs.Spelled.{decides_within, decides_name, Spells, word_sound, name_word, number_word}
 
 -- a word has no space, so that the first space is one after it
-length-each : (P : ℕ → Type 0) → ((b : ℕ) → P b → b ≢ 32) → (p r : List ℕ) → Each P p → word_length (p ++ r) ≡ length p + word_length r
-length-each P apart [] r h = omega arith
-length-each P apart (b ∷ p) r h = rw (ne_eqb b 32 (apart b h.0)) (omega (arith, length-each P apart p r h.1))
+length_each : (P : ℕ → Type 0) → ((b : ℕ) → P b → b ≢ 32) → (p r : List ℕ) → Each P p → word_length (p ++ r) ≡ length p + word_length r
+length_each P apart [] r h = omega arith
+length_each P apart (b ∷ p) r h = rw (ne_eqb b 32 (apart b h.0)) (omega (arith, length_each P apart p r h.1))
 
 length_word : (w : Seen) (p r : List ℕ) → Spells w p → word_length (p ++ r) ≡ length p + word_length r
-length_word (name t at) p r h = length-each Letter (λ b l e. omega arith) p r h.0.letters
-length_word (number v at) p r h = length-each Digit (λ b l e. omega arith) p r h.digits
+length_word (name t at) p r h = length_each Letter (λ b l e. omega arith) p r h.0.letters
+length_word (number v at) p r h = length_each Digit (λ b l e. omega arith) p r h.digits
 
 -- the word of a piece is the first of a line, with more after it or as the last
 next_more : (at : ℕ) (p r : List ℕ) (w : Seen) → word_of at p ≡ Some w → next_word at (p ++ 32 ∷ r) ≡ Some (w, Some (at + length p + 1, r))
@@ -62,8 +62,8 @@ Reads (Some (w, None)) s = Spells w s
 Reads (Some (w, Some left)) s = (p : List ℕ) × (s ≡ p ++ 32 ∷ left.1) × Spells w p
 
 -- of each line
-next-sound : (at : ℕ) (s : List ℕ) → Reads (next_word at s) s
-next-sound at s =
+next_sound : (at : ℕ) (s : List ℕ) → Reads (next_word at s) s
+next_sound at s =
     go (word_of at (take (word_length s) s)) (ltb (word_length s) (length s)) (word_sound at (take (word_length s) s)) (ltb-true _ _) (ltb-false _ _)
   where
     go : (o : Option Seen) (t : Bool) → ((w : Seen) → o ≡ Some w → Spells w (take (word_length s) s))
@@ -78,7 +78,7 @@ abbrev NameFirst : List ℕ → (List ℕ × Left) → Type 0
 NameFirst s x = (s ≡ x.0 ++ 32 ∷ x.1.1) × IsName x.0
 
 name_gives : (f : Fault) (left : Left) → Gives f (NameFirst left.1) (next_name f (word_in left))
-name_gives f left = go left.1 (word_in left) (next-sound left.0 left.1)
+name_gives f left = go left.1 (word_in left) (next_sound left.0 left.1)
   where
     go : (s : List ℕ) (next : Next) → Reads next s → Gives f (NameFirst s) (next_name f next)
     go s None h = fault
@@ -99,7 +99,7 @@ module _ (f : Fault) (low high : ℕ) where
   NumberFirst s x = (p : List ℕ) × (s ≡ p ++ 32 ∷ x.1.1) × IsWithin low high p x.0
 
   number_gives : (left : Left) → Gives f (NumberFirst left.1) (next_number f low high (word_in left))
-  number_gives left = go left.1 (word_in left) (next-sound left.0 left.1)
+  number_gives left = go left.1 (word_in left) (next_sound left.0 left.1)
     where
       go : (s : List ℕ) (next : Next) → Reads next s → Gives f (NumberFirst s) (next_number f low high next)
       go s None h = fault
@@ -109,7 +109,7 @@ module _ (f : Fault) (low high : ℕ) where
       go s (Some (number v at, Some rest)) h = gives_cond (within low high v) (v, rest) (λ t. (h.0, h.1, is_within h.0 v h.2 t))
 
   last_gives : (left : Left) → Gives f (IsWithin low high left.1) (last_number f low high (word_in left))
-  last_gives left = go left.1 (word_in left) (next-sound left.0 left.1)
+  last_gives left = go left.1 (word_in left) (next_sound left.0 left.1)
     where
       go : (s : List ℕ) (next : Next) → Reads next s → Gives f (IsWithin low high s) (last_number f low high next)
       go s None h = fault

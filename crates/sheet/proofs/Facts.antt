@@ -17,10 +17,10 @@ sound-is t e =
     let q = and_parts (leb t.work t.period) (leb t.period 30000) p.1 in
     (leb-true _ _ p.0, leb-true _ _ q.0, leb-true _ _ q.1)
 
-each-sound : (ts : List TaskLine) → sound_all ts ≡ true → (i : ℕ) → i < length ts → Sound (get_or ts i no_task)
-each-sound [] e i h = absurd (omega arith)
-each-sound (t ∷ ts) e zero h = sound-is t (and_parts (sound t) (sound_all ts) e).0
-each-sound (t ∷ ts) e (suc i) h = each-sound ts (and_parts (sound t) (sound_all ts) e).1 i (omega arith)
+each_sound : (ts : List TaskLine) → sound_all ts ≡ true → (i : ℕ) → i < length ts → Sound (get_or ts i no_task)
+each_sound [] e i h = absurd (omega arith)
+each_sound (t ∷ ts) e zero h = sound-is t (and_parts (sound t) (sound_all ts) e).0
+each_sound (t ∷ ts) e (suc i) h = each_sound ts (and_parts (sound t) (sound_all ts) e).1 i (omega arith)
 
 -- all of a rising list is above `last`, and none of it above 100
 rises_within : (last : ℕ) (vs : List ℕ) → rising last vs ≡ true → last ≤ 100
@@ -29,12 +29,12 @@ rises_within last (v ∷ vs) e =
     let p = and_parts (ltb last v) (rising v vs) e in
     omega (arith, ltb-true last v p.0, rises_within v vs p.1)
 
-each-above : (last : ℕ) (vs : List ℕ) → rising last vs ≡ true → (i : ℕ) → i < length vs → last < get_or vs i 0
-each-above last [] e i h = absurd (omega arith)
-each-above last (v ∷ vs) e zero h = ltb-true last v (and_parts (ltb last v) (rising v vs) e).0
-each-above last (v ∷ vs) e (suc i) h =
+each_above : (last : ℕ) (vs : List ℕ) → rising last vs ≡ true → (i : ℕ) → i < length vs → last < get_or vs i 0
+each_above last [] e i h = absurd (omega arith)
+each_above last (v ∷ vs) e zero h = ltb-true last v (and_parts (ltb last v) (rising v vs) e).0
+each_above last (v ∷ vs) e (suc i) h =
     let p = and_parts (ltb last v) (rising v vs) e in
-    omega (arith, ltb-true last v p.0, each-above v vs p.1 i (omega arith))
+    omega (arith, ltb-true last v p.0, each_above v vs p.1 i (omega arith))
 
 each_within : (last : ℕ) (vs : List ℕ) → rising last vs ≡ true → (i : ℕ) → i < length vs → get_or vs i 0 ≤ 100
 each_within last [] e i h = absurd (omega arith)
@@ -44,7 +44,7 @@ each_within last (v ∷ vs) e (suc i) h = each_within v vs (and_parts (ltb last 
 later-above : (last : ℕ) (vs : List ℕ) → rising last vs ≡ true → (i j : ℕ) → i < j → j < length vs → get_or vs i 0 < get_or vs j 0
 later-above last [] e i j l h = absurd (omega arith)
 later-above last (v ∷ vs) e i zero l h = absurd (omega arith)
-later-above last (v ∷ vs) e zero (suc j) l h = each-above v vs (and_parts (ltb last v) (rising v vs) e).1 j (omega arith)
+later-above last (v ∷ vs) e zero (suc j) l h = each_above v vs (and_parts (ltb last v) (rising v vs) e).1 j (omega arith)
 later-above last (v ∷ vs) e (suc i) (suc j) l h =
     later-above v vs (and_parts (ltb last v) (rising v vs) e).1 i j (omega arith) (omega arith)
 
@@ -68,7 +68,7 @@ module _ (s : Sheet) where
   tasks-few = omega (arith, task_number, s.task_few)
 
   pub task_sound_at : (i : ℕ) → i < length (content s).tasks → Sound (get_or (content s).tasks i no_task)
-  task_sound_at i h = each-sound (content s).tasks s.task_sound i h
+  task_sound_at i h = each_sound (content s).tasks s.task_sound i h
 
   -- 1 to 8 levels from 1 to 100, each above the one before, the last 100
   pub levels-some : 0 < length (content s).levels
@@ -79,7 +79,7 @@ module _ (s : Sheet) where
 
   pub level_in_range : (i : ℕ) → i < length (content s).levels → (1 ≤ get_or (content s).levels i 0) × (get_or (content s).levels i 0 ≤ 100)
   level_in_range i h =
-      (each-above 0 (content s).levels s.level_order i h, each_within 0 (content s).levels s.level_order i h)
+      (each_above 0 (content s).levels s.level_order i h, each_within 0 (content s).levels s.level_order i h)
 
   pub levels-rise : (i j : ℕ) → i < j → j < length (content s).levels → get_or (content s).levels i 0 < get_or (content s).levels j 0
   levels-rise i j l h = later-above 0 (content s).levels s.level_order i j l h

@@ -10,7 +10,7 @@ use grammar::{Entry, Reason, same};
 use lines::{next_line, read_entry};
 
 // The three sections in the sequence of the file, and what stands after the contents.
-#[derive(Clone, Copy)]
+#[derive(Clone, Copy, Debug)]
 pub struct Contents<'a> {
     pub first: Entry,
     pub second: Entry,

@@ -126,7 +126,7 @@ module _ (s : ℕ) (T : Loads) where
   cycle-allowed H c =
       record {
         ticks = c.ticks;
-        some-period = λ i h. let l : i < size T = omega (arith, size-allowed) in rw (period-allowed i l) (c.some-period i l);
+        some_period = λ i h. let l : i < size T = omega (arith, size-allowed) in rw (period-allowed i l) (c.some_period i l);
         divides = λ i h. let l : i < size T = omega (arith, size-allowed) in rw (period-allowed i l) (c.divides i l);
       }
 

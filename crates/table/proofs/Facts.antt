@@ -17,7 +17,7 @@ use Rattle.table.specs.Tables.{admitted}
 use Rattle.table.proofs.Admissions.{has-place, allowance-enough, allowance_covers, size-allowed, work-allowed, period-allowed}
 
 pub cycle_of_lem : (w : Workload) → Cycle (loads_in w) (turn_of w)
-cycle_of_lem w = record { ticks = w.ticks; some-period = w.periods; divides = w.divides }
+cycle_of_lem w = record { ticks = w.ticks; some_period = w.periods; divides = w.divides }
 
 pub fits_of : (w : Workload) → load (loads_in w) (turn_of w) ≤ turn_of w
 fits_of w = w.fits

@@ -41,7 +41,7 @@ least-all T H l = record { some = l.some; each = l.each; least = l.least }
 -- the least common multiple is a cycle of the tasks
 pub least-cycle : (T : Loads) (H : ℕ) → ((i : ℕ) → i < size T → 0 < period T i) → Least T H → Cycle T H
 least-cycle T H pos l =
-    record { ticks = l.some; some-period = pos; divides = λ i h. mod-eq-zero_of_dvd (period T i) (l.each i h) }
+    record { ticks = l.some; some_period = pos; divides = λ i h. mod-eq-zero_of_dvd (period T i) (l.each i h) }
 
 -- what the test of all periods says of the first n
 pub divides-front : (T : Loads) (n m : ℕ) → ((i : ℕ) → i < n → i < size T → period T i ∣ m) → divide_all (take n T) m ≡ true

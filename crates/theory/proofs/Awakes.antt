@@ -19,13 +19,13 @@ module _ (T : Loads) (H : ℕ) (cycle : Cycle T H) where
       let Q : ℕ = H / period T i in
       let e : H ≡ period T i * Q = omega (arith, div-add-mod H (period T i), cycle.divides i k) in
       let h : (work T i * Q) * (jobs T i a d * period T i) ≤ (work T i * Q) * (d - a) =
-      mul-le-mul_left (work T i * Q) (jobs_span T i (cycle.some-period i k) a d l) in
+      mul-le-mul_left (work T i * Q) (jobs_span T i (cycle.some_period i k) a d l) in
       omega (arith, h, ap (λ x. x * (work T i * jobs T i a d)) e)
 
   -- where the load fits the cycle, the work of a span fits the span
-  pub demand-fits : load T H ≤ H → (a d : ℕ) → a ≤ d → demand T a d ≤ d - a
+  pub demand_fits : load T H ≤ H → (a d : ℕ) → a ≤ d → demand T a d ≤ d - a
   unfolding demand load
-  demand-fits fit a d l =
+  demand_fits fit a d l =
       le_of_mul-le-mul_left
       (omega (
         arith,
@@ -38,4 +38,4 @@ module _ (T : Loads) (H : ℕ) (cycle : Cycle T H) where
 
 pub always_keeps_law : AlwaysKeepsLaw
 unfolding between
-always_keeps_law T H cycle fit a d l h = omega (arith, demand-fits T H cycle fit a d l, number-always a, number-always d)
+always_keeps_law T H cycle fit a d l h = omega (arith, demand_fits T H cycle fit a d l, number-always a, number-always d)

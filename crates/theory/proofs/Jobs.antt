@@ -27,8 +27,8 @@ module _ (p : ℕ) (pos : 0 < p) where
   from_start : (j : ℕ) → leb 0 (j * p) ≡ leb 0 j
   from_start j = leb_same 0 (j * p) 0 j (λ h. omega arith) (λ h. omega arith)
 
-  rest-full : (t : ℕ) → suc t % p ≡ 0 → suc (t % p) ≡ p
-  rest-full t e =
+  rest_full : (t : ℕ) → suc t % p ≡ 0 → suc (t % p) ≡ p
+  rest_full t e =
       ⊎_elim
       (λ (l : suc (t % p) < p). omega (arith, suc-mod t p, mod-eq_of_lt l))
       (λ (l : p ≤ suc (t % p)). omega (arith, mod-lt t pos))
@@ -43,7 +43,7 @@ module _ (p : ℕ) (pos : 0 < p) where
 
   -- the quotient goes up where the divisor divides, and nowhere else
   pub quotient_up : (t : ℕ) → suc t % p ≡ 0 → suc t / p ≡ suc (t / p)
-  quotient_up t e = div-eq_of_eq-mul_left pos (omega (arith, div-add-mod t p, rest-full t e))
+  quotient_up t e = div-eq_of_eq-mul_left pos (omega (arith, div-add-mod t p, rest_full t e))
 
   pub quotient_stays : (t : ℕ) → (suc t % p ≡ 0 → ⊥) → suc t / p ≡ t / p
   quotient_stays t e =
@@ -59,10 +59,10 @@ module _ (p : ℕ) (pos : 0 < p) where
   released_from (suc t) = omega (arith, lt-div-mul-add {a = t} pos, suc-mul (t / p) p)
 
   -- where the period divides a, the jobs released before a are those due at a or earlier
-  pub released-whole : (m : ℕ) → m % p ≡ 0 → released p m ≡ m / p
+  pub released_whole : (m : ℕ) → m % p ≡ 0 → released p m ≡ m / p
   unfolding released
-  released-whole zero e = sym (zero-div p)
-  released-whole (suc t) e = sym (quotient_up t e)
+  released_whole zero e = sym (zero-div p)
+  released_whole (suc t) e = sym (quotient_up t e)
 
 module _ (T : Loads) (i : ℕ) (pos : 0 < period T i) where
   pub jobs_after : (t d : ℕ) → jobs T i (suc t) d ≡ d / period T i - suc (t / period T i)
@@ -75,9 +75,9 @@ module _ (T : Loads) (i : ℕ) (pos : 0 < period T i) where
             (λ j. ap₂ ◌&&◌ (from_later (period T i) pos j t) (due_by (period T i) pos j d)),
       )
 
-  pub jobs-all : (d : ℕ) → jobs T i 0 d ≡ d / period T i
+  pub jobs_all : (d : ℕ) → jobs T i 0 d ≡ d / period T i
   unfolding jobs
-  jobs-all d =
+  jobs_all d =
       omega (
         arith,
         div-le_self d (period T i),
@@ -87,7 +87,7 @@ module _ (T : Loads) (i : ℕ) (pos : 0 < period T i) where
 
   pub jobs-is : (a d : ℕ) → jobs T i a d ≡ d / period T i - released (period T i) a
   unfolding released
-  jobs-is zero d = rw sub-zero (jobs-all d)
+  jobs-is zero d = rw sub-zero (jobs_all d)
   jobs-is (suc t) d = jobs_after t d
 
   -- the jobs of a span take up no more than the span
@@ -103,6 +103,6 @@ module _ (T : Loads) (i : ℕ) (pos : 0 < period T i) where
       (cases_lt (d / p) R)
 
 -- the work that has to be done from tick 0 to d is the work that falls due by d
-pub demand-whole : (T : Loads) → ((i : ℕ) → i < size T → 0 < period T i) → (d : ℕ) → demand T 0 d ≡ load T d
+pub demand_whole : (T : Loads) → ((i : ℕ) → i < size T → 0 < period T i) → (d : ℕ) → demand T 0 d ≡ load T d
 unfolding demand load
-demand-whole T pos d = sum-eq (size T) _ _ (λ i k. ap (λ x. work T i * x) (jobs-all T i (pos i k) d))
+demand_whole T pos d = sum-eq (size T) _ _ (λ i k. ap (λ x. work T i * x) (jobs_all T i (pos i k) d))

@@ -8,8 +8,8 @@ use Rattle.theory.specs.Loads.{Loads, size, work, period, Cycle, load}
 use Rattle.theory.specs.Laws.{jobs, demand, Law}
 use Rattle.theory.specs.Lates.{due_at, backlog, edl, LateKeepsLaw}
 use Rattle.theory.proofs.Sums.{sum-le, sum-eq, sum-add, sum_none, number-zero, number-suc, number_grows}
-use Rattle.theory.proofs.Jobs.{quotient_up, quotient_stays, div_up, jobs-is, demand-whole}
-use Rattle.theory.proofs.Awakes.{demand-fits}
+use Rattle.theory.proofs.Jobs.{quotient_up, quotient_stays, div_up, jobs-is, demand_whole}
+use Rattle.theory.proofs.Awakes.{demand_fits}
 
 one_taken : (n : ℕ) → n - 1 + cond (ltb 0 n) 1 0 ≡ n
 one_taken n = grind (arith, nat_tests)
@@ -107,23 +107,23 @@ module _ (T : Loads) (pos : (i : ℕ) → i < size T → 0 < period T i) where
 
 module _ (T : Loads) (H : ℕ) (cycle : Cycle T H) where
   -- no work is left in front of the cycle
-  pub all_taken : load T H ≤ H → before T cycle.some-period H 0 ≡ 0
+  pub all_taken : load T H ≤ H → before T cycle.some_period H 0 ≡ 0
   all_taken fit =
-      let h : before T cycle.some-period H 0 ≤ 0 =
-      before_bound T cycle.some-period H 0 0 (omega arith)
-      (λ d _ _. omega (arith, demand-fits T H cycle fit 0 d (omega arith), demand-whole T cycle.some-period d)) in
+      let h : before T cycle.some_period H 0 ≤ 0 =
+      before_bound T cycle.some_period H 0 0 (omega arith)
+      (λ d _ _. omega (arith, demand_fits T H cycle fit 0 d (omega arith), demand_whole T cycle.some_period d)) in
       omega arith
 
   keeps : load T H ≤ H → Law T H (edl T H)
   unfolding between
   keeps fit a d l h =
-      let P : (i : ℕ) → i < size T → 0 < period T i = cycle.some-period in
-      let now : demand T a d ≤ d - a = demand-fits T H cycle fit a d l in
-      let carry : load T a + demand T a d ≤ load T d = omega (arith, carry_up T P a a d (omega arith) l, demand-fits T H cycle fit a a (omega arith)) in
+      let P : (i : ℕ) → i < size T → 0 < period T i = cycle.some_period in
+      let now : demand T a d ≤ d - a = demand_fits T H cycle fit a d l in
+      let carry : load T a + demand T a d ≤ load T d = omega (arith, carry_up T P a a d (omega arith) l, demand_fits T H cycle fit a a (omega arith)) in
       let bounded : before T P H a ≤ before T P H d + load T d - load T a - demand T a d =
       before_bound T P H a (before T P H d + load T d - load T a - demand T a d) (omega arith)
       (λ e x y. ⊎_elim
-      (λ (z : e < d). omega (arith, carry_up T P a e d x (omega arith), demand-fits T H cycle fit a e x))
+      (λ (z : e < d). omega (arith, carry_up T P a e d x (omega arith), demand_fits T H cycle fit a e x))
       (λ (z : d ≤ e). omega (arith, reaches T P H d e z y))
       (cases_lt e d)) in
       omega (arith, paid T P H a (omega arith), paid T P H d h, all_taken fit)

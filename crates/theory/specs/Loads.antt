@@ -25,7 +25,7 @@ period T i = (slice_index_or T i no_load).period
 -- a cycle of the tasks: a number of ticks, at least one, that each period divides
 pub record Cycle (T : Loads) (H : ℕ) : Type 0 where
   pub ticks : 0 < H
-  pub some-period : (i : ℕ) → i < size T → 0 < period T i
+  pub some_period : (i : ℕ) → i < size T → 0 < period T i
   pub divides : (i : ℕ) → i < size T → H % period T i ≡ 0
 
 -- the work that falls due in a cycle: each task's work as often as its period goes into the cycle

@@ -57,16 +57,16 @@ module _ (T : Loads) (jobs : List Job) (t : ℕ) (few : size T ≤ length jobs)
       rw (get_or-take (size T) jobs k no_job l)
       (λ i. record { due = dues k l i; release = releases k l i; place = own k l i })
 
-  places-own : (k : ℕ) → (job_at T t k).place ≡ k
+  places_own : (k : ℕ) → (job_at T t k).place ≡ k
   unfolding job_at
-  places-own k = refl
+  places_own k = refl
 
   earliest_picked : (r : Option ℕ) → Picked waits first key_list (take (size T) jobs) (length (take (size T) jobs)) r →
       r ≡ earliest (λ i. ltb 0 (get_or jobs i no_job).left) (job_at T t) (size T)
   earliest_picked r h =
       let e : length (take (size T) jobs) ≡ size T = length-take-le (size T) jobs few in
       rw (← e)
-      (picked_earliest (take (size T) jobs) (λ i. ltb 0 (get_or jobs i no_job).left) (job_at T t) places-own
+      (picked_earliest (take (size T) jobs) (λ i. ltb 0 (get_or jobs i no_job).left) (job_at T t) places_own
       (λ k l. ap (λ (j : Job). ltb 0 j.left) (get_or-take (size T) jobs k no_job (omega arith)))
       (λ k l. keyed k (omega arith))
       r h)

@@ -57,8 +57,8 @@ module _ (T : Loads) (k : ℕ) where
 
 -- a job is due as a tick begins exactly where its period divides the tick
 module _ (p t : ℕ) (pos : 0 < p) where
-  pub due-here : suc t % p ≡ 0 → (t / p + 1) * p ≡ t + 1
-  due-here e =
+  pub due_here : suc t % p ≡ 0 → (t / p + 1) * p ≡ t + 1
+  due_here e =
       rw (add-one (t / p), add-one t)
       (omega (arith, div-add-mod (suc t) p, ap (λ q. p * q) (quotient_up p pos t e), mul_comm p (suc (t / p))))
 
@@ -67,13 +67,13 @@ module _ (p t : ℕ) (pos : 0 < p) where
 
   pub next-due : suc t % p ≡ 0 → t + 1 + p ≡ ((t + 1) / p + 1) * p
   next-due e =
-      let f = due-here e in
+      let f = due_here e in
       rw (add-one t, quotient_up p pos t e, add-one (suc (t / p)))
       (omega (arith, suc-mul (suc (t / p)) p, ap (λ x. x * p) (sym (add-one (t / p)))))
 
   pub next-release : suc t % p ≡ 0 → t + 1 ≡ (t + 1) / p * p
   next-release e =
-      let f = due-here e in
+      let f = due_here e in
       rw (add-one t, quotient_up p pos t e) (omega (arith, ap (λ x. x * p) (sym (add-one (t / p)))))
 
   pub same_quotient : (suc t % p ≡ 0 → ⊥) → (t + 1) / p ≡ t / p
@@ -103,7 +103,7 @@ module _ (T : Loads) (t : ℕ) (awake : Bool) (o : Option ℕ) (k : ℕ) (j : Jo
     passed =
         ⊎_elim
         (λ (e : suc t % period T k ≡ 0).
-        let d : j.due ≡ t + 1 = due ∙ due-here (period T k) t pos e in
+        let d : j.due ≡ t + 1 = due ∙ due_here (period T k) t pos e in
         let r = falls_due l d in (
           ap (λ x. x.due) r ∙ next-due (period T k) t pos e,
           ap (λ x. x.release) r ∙ next-release (period T k) t pos e,

@@ -16,14 +16,14 @@ loop-t-init c =
 -- the backlog stays within the load of the cycle
 bounded : (f : Workload) (t B : ℕ) → 0 < t → t ≤ turn_of f → B ≡ backlog (loads_in f) (turn_of f) (turn_of f - t) → B + due_at (loads_in f) (t - 1 + 1) ≤ 30000
 bounded f t B p l e =
-    omega (arith, due_bound (loads_in f) (turn_of f) (cycle_of_lem f).some-period t p l, fits_of f, short_of f)
+    omega (arith, due_bound (loads_in f) (turn_of f) (cycle_of_lem f).some_period t p l, fits_of f, short_of f)
 
 pub work_due-backlog-requires : goal.work_due-backlog-requires
 work_due-backlog-requires c =
     let l : c.loop-t.t ≤ turn_of c.args.workload.now = omega arith in
     rw c.loads-loads.ensures
     (record {
-      periods = (cycle_of_lem c.args.workload.now).some-period;
+      periods = (cycle_of_lem c.args.workload.now).some_period;
       small = omega (arith, bounded c.args.workload.now c.loop-t.t c.loop-t.backlog c.loop-t-test.true l c.loop-t.invariant.0);
     })
 

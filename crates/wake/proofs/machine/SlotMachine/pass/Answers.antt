@@ -35,7 +35,7 @@ invariant_of-self c =
     let T = loads_in m.workload in
     let o = owner T c.args.awake (λ i. (get_or m.jobs i no_job).left) m.tick in
     let after = (λ (k : ℕ). composed T _ (m.tick + 1) k o _ (get_or m.jobs k no_job) _ _ (c.renew.ensures k) c.loads.ensures (c.charge.ensures k) c.owner-owner.ensures) in
-    let p = (λ (k : ℕ) (l : k < size T). passed T m.tick c.args.awake o k (get_or m.jobs k no_job) l ((cycle_of_lem m.workload).some-period k l) (m.dues k l) (m.releases k l) (m.own k l)) in
+    let p = (λ (k : ℕ) (l : k < size T). passed T m.tick c.args.awake o k (get_or m.jobs k no_job) l ((cycle_of_lem m.workload).some_period k l) (m.dues k l) (m.releases k l) (m.own k l)) in
     record {
       places = omega (arith, m.places, c.charge.auto.jobs, c.renew.auto.jobs);
       rest = λ k l. after k ∙ rest_after T m.tick c.args.awake o k (get_or m.jobs k no_job) l (m.rest k l);
@@ -58,6 +58,6 @@ returns c =
       left = λ _ k.
           ap (λ (j : Job). j.left) (composed T _ (m.tick + 1) k o _ (get_or m.jobs k no_job) _ _ (c.renew.ensures k) c.loads.ensures (c.charge.ensures k) c.owner-owner.ensures)
           ∙ left_after T m.tick c.args.awake (λ i. (get_or m.jobs i no_job).left) k (get_or m.jobs k no_job) refl
-          (λ l. (passed T m.tick c.args.awake o k (get_or m.jobs k no_job) l ((cycle_of_lem m.workload).some-period k l) (m.dues k l) (m.releases k l) (m.own k l)).3)
+          (λ l. (passed T m.tick c.args.awake o k (get_or m.jobs k no_job) l ((cycle_of_lem m.workload).some_period k l) (m.dues k l) (m.releases k l) (m.own k l)).3)
           (λ l. m.rest k l);
     }
