@@ -3,6 +3,7 @@
 #![tactic(auto)]
 
 pub mod bytes;
+mod faults;
 pub mod letters;
 pub mod name;
 pub mod reason;

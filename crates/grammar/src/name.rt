@@ -1,5 +1,6 @@
 //! Names of tasks.
-ghost use Rattle.std.specs.Prelude.{◌≡◌};
+ghost use Rattle.std.specs.Prelude.{◌≡◌, ◌≤◌, length};
+ghost use Rattle.grammar.specs.Tasks.{name_for};
 ghost use Rattle.grammar.specs.Names.{spelled, name_of};
 
 use crate::bytes::length_before;
@@ -17,16 +18,24 @@ pub struct Name {
 pub const NO_NAME: Name = Name { bytes: [0; 8] };
 
 impl Name {
-    // The name that `text` spells, with zeros after its letters; none where it is longer than a name may be.
-    pub fn of(text: &[u8]) -> Option<Name>
+    // The name that `text` spells, with zeros after its letters: for the reader of words, which knows that no name is longer.
+    pub fn of(text: &[u8]) -> Name
+        requires { length text.now ≤ 8 }
+        ensures { result ≡ name_for text.now }
+    {
+        let mut bytes = [0; 8];
+        bytes[0..text.len()].copy_from_slice(text);
+        Name { bytes }
+    }
+
+    // The name that `text` spells; none where it is longer than a name may be.
+    pub fn checked(text: &[u8]) -> Option<Name>
         ensures { result ≡ name_of text.now }
     {
         if text.len() > LONGEST {
             return None;
         }
-        let mut bytes = [0; 8];
-        bytes[0..text.len()].copy_from_slice(text);
-        Some(Name { bytes })
+        Some(Name::of(text))
     }
 
     // Its letters, which end before the first zero.

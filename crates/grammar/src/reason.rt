@@ -2,7 +2,8 @@
 ghost use Rattle.std.specs.Prelude.{◌≡◌};
 ghost use Rattle.grammar.specs.Reasons.{fault_at};
 
-use basis::{Fault, Layer};
+use crate::faults::{bad_bytes, bad_contents, bad_level, bad_line, bad_script, bad_task};
+use basis::Fault;
 
 // Why a line is refused.
 #[derive(Clone, Copy, Debug)]
@@ -26,18 +27,13 @@ impl Reason {
     pub fn at(self, line: usize) -> Fault
         ensures { result ≡ fault_at self line }
     {
-        let (number, layer) = match self {
-            Reason::Bytes => (1, Layer::Bytes),
-            Reason::Contents => (2, Layer::Sheet),
-            Reason::Body => (3, Layer::Sheet),
-            Reason::Level => (4, Layer::Sheet),
-            Reason::Task => (5, Layer::Sheet),
-            Reason::Script => (9, Layer::Script),
-        };
-        Fault {
-            number,
-            layer,
-            line,
+        match self {
+            Reason::Bytes => bad_bytes(line),
+            Reason::Contents => bad_contents(line),
+            Reason::Body => bad_line(line),
+            Reason::Level => bad_level(line),
+            Reason::Task => bad_task(line),
+            Reason::Script => bad_script(line),
         }
     }
 }

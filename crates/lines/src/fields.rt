@@ -92,10 +92,11 @@ pub fn read_task(line: &[u8], at: usize) -> Result<TaskLine, Fault>
 {
     let fault = Reason::Body.at(at);
     let (text, rest) = next_name(Tail { bytes: line, at: 0 }, fault)?;
-    let Some(name) = Name::of(text) else {
-        return Err(fault);
-    };
     let (work, rest) = next_number(rest, 1, MOST_TICKS, fault)?;
     let period = last_number(rest, 1, MOST_TICKS, fault)?;
-    Ok(TaskLine { name, work, period })
+    Ok(TaskLine {
+        name: Name::of(text),
+        work,
+        period,
+    })
 }

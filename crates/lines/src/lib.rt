@@ -3,11 +3,11 @@
 
 mod entry;
 mod fields;
-mod letters;
-mod text;
+mod lines;
+mod script;
 mod words;
 
 pub use entry::read_entry;
 pub use fields::{read_level, read_power, read_task};
-pub use letters::script_line;
-pub use text::{check_bytes, next_line};
+pub use lines::{check_bytes, next_line};
+pub use script::script_line;

@@ -1,6 +1,6 @@
 use Rattle.std.proofs.Common.{◌≡◌, ◌≤◌, drop}
 use Rattle.grammar.specs.Texts.{bytes_from}
-use Rattle.lines.proofs.text.check_bytes.Given as goal
+use Rattle.lines.proofs.lines.check_bytes.Given as goal
 
 abbrev pub invariant-loop-b : goal.invariant-loop-b
 invariant-loop-b l =

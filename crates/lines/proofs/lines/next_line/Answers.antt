@@ -1,7 +1,7 @@
 use Rattle.std.proofs.Common.{arith, length-drop}
 use Rattle.std.proofs.lemmas.List.{take_rest}
 use Rattle.lines.proofs.Cuts.{cut_at, none}
-use Rattle.lines.proofs.text.next_line.Goals as goal
+use Rattle.lines.proofs.lines.next_line.Goals as goal
 
 pub returns-then-n-text : goal.returns-then-n-text
 returns-then-n-text c =
