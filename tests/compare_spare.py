@@ -1,7 +1,7 @@
 #!/usr/bin/env python3
 """Feeds the built program `spare` random machine files, whole and damaged, and compares what it prints with tests/model.py.
 
-Usage: compare_spare.py [COUNT [SEED]]   after `rt run` in crates/spare; ends with status 1 at the first difference, which it keeps.
+Usage: compare_spare.py [COUNT [SEED]]   after `rt run < stdin` in crates/spare; ends with status 1 at the first difference, which it keeps.
 """
 import os
 import random

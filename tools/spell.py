@@ -3,7 +3,7 @@
 
 A definition, a lemma or a field is in snake case, a fact in upper camel case. A dash is kept between two names (`sum-add`) and gives way to `_`
 before a plain word (`sum_none`). Names of src/ and names that the prover makes (goals such as `f-requires`) stay as they are.
-It was run once, when the repository was brought to a newer Rattle; it changes nothing where the names are spelled so already.
+It was run when the repository was brought to a newer Rattle; it changes nothing where the names are spelled so already.
 """
 import glob
 import os
