@@ -13,7 +13,7 @@ import sys
 # Words that count as names beside the repository's own definitions: operations and relations of the library.
 NAMES = "length take drop set map append replicate get_or sum add sub mul div mod le lt eq suc zero one leb ltb eqb cond bind".split()
 # What the prover makes: goals by their ending, and answers for them.
-MADE = re.compile(r"^(returns|overflow|bounds|slice_bounds|offset|nonzero|invariant|decreases|loop-|prove)|-requires(-\d+)?$|-(preserved|init|smaller)$")
+MADE = re.compile(r"^(returns|overflow|bounds|slice_bounds|offset|nonzero|invariant|decreases|loop-|prove)|-requires(-\d+)?(-clause-\w+)?$|-(preserved|init|smaller)$")
 DECL = re.compile(r"^ {0,4}((?:(?:abbrev|unfoldable|pub|record|data)\s+)*)([^\s:(){}=,.;]+)((?:\s+[({][^=]*)?)\s+:(?:\s|$)")
 TOKEN = re.compile(r"[^\s(){}\[\],;.=:λ\"`|]+")
 # A lemma that would have its function's name.

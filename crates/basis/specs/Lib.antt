@@ -1,3 +1,4 @@
 pub mod Faults
 pub mod Fillings
 pub mod Picks
+pub mod Places

@@ -1,10 +1,13 @@
-//! What every layer is built on: faults, lists that fill memory of the caller, and the pick of an entry from a row.
+//! What every layer is built on: faults, lists in places of their own and in memory of the caller, and the pick of an entry from a
+//! row.
 #![tactic(auto)]
 
 pub mod fault;
 pub mod filling;
+pub mod places;
 pub mod row;
 
-pub use fault::{Fault, Layer};
+pub use fault::{Fault, Layer, Reason};
 pub use filling::Filling;
+pub use places::{Blank, Places};
 pub use row::{Entry, pick};

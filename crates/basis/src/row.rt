@@ -1,5 +1,5 @@
 //! The first eligible entry of a row in a total order, for rows of any kind.
-ghost use Rattle.std.specs.Prelude.{◌≡◌, ℕ, ◌+◌, ◌<◌, Bool, true, false, List, length};
+ghost use Rattle.std.specs.Prelude.{◌≡◌, ℕ, ◌+◌, ◌<◌, Bool, true, false, List, length, slice_index_or};
 ghost use Rattle.basis.specs.Picks.{Picked};
 
 // An entry of a row: whether it is eligible for a question `Q`, and which of two entries comes first.
@@ -26,19 +26,26 @@ pub trait Entry<Q> {
     ghost keyed: { (x y z : Self) → key x ≡ key y → (before x z ≡ before y z) × (before z x ≡ before z y) };
 }
 
-// The pick of the first `i` entries and the one at `i`.
-fn better<Q, E: Entry<Q>>(row: &[E], question: &Q, best: Option<usize>, i: usize) -> Option<usize>
-    requires { (i < length row.now) × Picked (E.Entry.eligible question.now) E.Entry.before E.Entry.key row.now i best }
+// The pick of the first `i` entries and `entry`, the one at `i`.
+fn better<Q, E: Entry<Q>>(
+    row: &[E],
+    question: &Q,
+    best: Option<usize>,
+    i: usize,
+    entry: &E,
+) -> Option<usize>
+    requires inside { i < length row.now }
+    requires here { entry.now ≡ slice_index_or row.now i entry.now }
+    requires picked { Picked (E.Entry.eligible question.now) E.Entry.before E.Entry.key row.now i best }
     ensures { Picked (E.Entry.eligible question.now) E.Entry.before E.Entry.key row.now (i + 1) result }
 {
-    let x = &row[i];
-    if !x.is_eligible(question) {
+    if !entry.is_eligible(question) {
         return best;
     }
     match best {
         None => Some(i),
         Some(b) => {
-            if x.comes_before(&row[b]) {
+            if entry.comes_before(&row[b]) {
                 Some(i)
             } else {
                 Some(b)
@@ -52,8 +59,8 @@ pub fn pick<Q, E: Entry<Q>>(row: &[E], question: &Q) -> Option<usize>
     ensures { Picked (E.Entry.eligible question.now) E.Entry.before E.Entry.key row.now (length row.now) result }
 {
     let mut best = None;
-    for i in 0..row.len() {
-        best = better(row, question, best, i);
+    for (i, entry) in row.iter().enumerate() {
+        best = better(row, question, best, i, entry);
     }
     best
 }

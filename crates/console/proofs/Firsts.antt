@@ -1,41 +1,34 @@
 -- The line of a first job depends only on the owners of the ticks up to its deadline.
-use Rattle.std.proofs.Common.{◌≡◌, ℕ, ◌<◌, ◌≤◌, Bool, false, List, ◌++◌, map, length, get_or, None, codes, Option, ap, ◌∙◌, arith, length-take}
+use Rattle.std.proofs.Common.{◌≡◌, ℕ, ◌<◌, ◌≤◌, List, map, take, length, get_or, Option, ap, arith, length-take}
 use Rattle.std.specs.List.{range_with_len}
-use Rattle.std.proofs.lemmas.List.FromFn.{length-map-range_with_len, get_or-map-range_with_len, fill_by_all}
-use Rattle.grammar.specs.Names.{spelled}
+use Rattle.std.proofs.lemmas.List.FromFn.{length-map-range_with_len, take-map-range_with_len}
+use Rattle.std.proofs.lemmas.Simd.{map-map}
 use Rattle.grammar.specs.declared.name.Name.{Name}
 use Rattle.theory.specs.Loads.{size, period, no_load}
 use Rattle.theory.specs.Slots.{is}
 use Rattle.table.specs.declared.table.Table.{Table}
-use Rattle.table.specs.declared.workload.Workload.{Workload}
 use Rattle.table.specs.Tables.{admitted}
-use Rattle.table.specs.Workloads.{loads_in, turn_of}
+use Rattle.table.specs.Workloads.{loads_in}
 use Rattle.table.proofs.Facts.{period-within}
-use Rattle.console.specs.Spans.{spans_from}
-use Rattle.console.specs.Pages.{feed, first_line}
+use Rattle.console.specs.Pages.{owned_line, first_line}
 
--- tests that agree below n mark the same ticks
-marks_same : (f g : ℕ → Bool) (n : ℕ) → ((t : ℕ) → t < n → f t ≡ g t) → map f (range_with_len 0 n) ≡ map g (range_with_len 0 n)
-marks_same f g n h =
-    fill_by_all g (map f (range_with_len 0 n)) n false (length-map-range_with_len f 0 n)
-    (λ k l. get_or-map-range_with_len f 0 n k k false l (omega arith) ∙ h k l)
-
--- the owners as a list and as a function
-owner_same : (f : ℕ → Option ℕ) (os : List (Option ℕ)) (n i t : ℕ) → os ≡ map f (range_with_len 0 n) → t < n → is i (get_or os t None) ≡ is i (f t)
-owner_same f os n i t e l = ap (λ x. is i (get_or x t None)) e ∙ ap (λ o. is i o) (get_or-map-range_with_len f 0 n t t None l (omega arith))
+-- the marks of a place up to a tick, from the owners of a whole cycle
+marks_of : (f : ℕ → Option ℕ) (owners : List (Option ℕ)) (n i p : ℕ) → owners ≡ map f (range_with_len 0 n) → p ≤ n →
+    map (is i) (take p owners) ≡ map (λ t. is i (f t)) (range_with_len 0 p)
+marks_of f owners n i p e l = rw (e, take-map-range_with_len f 0 n p l) (map-map (is i) f (range_with_len 0 p))
 
 pub first_same : (name : Name) (i n p : ℕ) (f g : ℕ → Option ℕ) (primary spare : List (Option ℕ)) →
     primary ≡ map f (range_with_len 0 n) → spare ≡ map g (range_with_len 0 n) → p ≤ n →
-    first_line name i (λ t. get_or primary t None) (λ t. get_or spare t None) p ≡ first_line name i f g p
-first_same name i n p f g primary spare e h l =
-    let a = marks_same (λ t. is i (get_or primary t None)) (λ t. is i (f t)) p (λ t x. owner_same f primary n i t e (omega arith)) in
-    let b = marks_same (λ t. is i (get_or spare t None)) (λ t. is i (g t)) p (λ t x. owner_same g spare n i t h (omega arith)) in
-    (λ k. spelled name ++ (codes " primary" ++ (spans_from 0 None (a k) ++ (codes " spare" ++ (spans_from 0 None (b k) ++ feed)))))
+    owned_line name (map (is i) (take p primary)) (map (is i) (take p spare)) ≡ first_line name i f g p
+first_same name i n p f g primary spare e h l = rw (marks_of f primary n i p e l, marks_of g spare n i p h l)
 
 -- the deadline of a first job lies within the cycle
-pub period_room : (t : Table) (w : Workload) (i : ℕ) → loads_in w ≡ (admitted t).works → turn_of w ≡ (admitted t).cycle → i < length (admitted t).names →
-    (get_or (loads_in w) i no_load).period ≤ (admitted t).cycle
+pub period_room : (t : Table) (i : ℕ) → i < length (admitted t).names → (get_or (admitted t).works i no_load).period ≤ (admitted t).cycle
 unfolding period
-period_room t w i e h l =
-    let k : i < size (loads_in w) = omega (arith, length-take (size (loads_in t.works)) t.names, ap length e) in
-    omega (arith, period-within w i k)
+period_room t i l = period-within t.works i (omega (arith, length-take (size (loads_in t.works)) t.names))
+
+-- the owners of a cycle on both boards are known as far as that
+pub owners_reach : (f g : ℕ → Option ℕ) (primary spare : List (Option ℕ)) (n p : ℕ) → primary ≡ map f (range_with_len 0 n) → spare ≡ map g (range_with_len 0 n) → p ≤ n →
+    (p ≤ length primary) × (p ≤ length spare)
+owners_reach f g primary spare n p e h l =
+    (omega (arith, ap length e, length-map-range_with_len f 0 n), omega (arith, ap length h, length-map-range_with_len g 0 n))

@@ -1,8 +1,7 @@
 -- What the program `spare` prints: the plan of the spare, and each task's first job on both boards.
-use Rattle.std.specs.Prelude.{ℕ, zero, suc, ◌-◌, Bool, not, List, [], ◌∷◌, ◌++◌, length, Ok, Err, codes, decimal, Option, Result, slice_index_or}
+use Rattle.std.specs.Prelude.{ℕ, zero, suc, ◌-◌, Bool, true, false, not, List, [], ◌∷◌, ◌++◌, length, Ok, Err, None, codes, decimal, Option, Result, slice_index_or}
 use Rattle.basis.specs.declared.fault.Fault.{Fault}
-use Rattle.basis.specs.declared.fault.Layer.{Layer}
-use Rattle.basis.specs.declared.fault.Layer.TheVariants.{Bytes, Sheet, Plan, Script, Run}
+use Rattle.basis.specs.Faults.{fault_text}
 use Rattle.grammar.specs.declared.name.Name.{Name}
 use Rattle.grammar.specs.Names.{spelled}
 use Rattle.theory.specs.Sums.{between}
@@ -14,7 +13,9 @@ use Rattle.theory.specs.Lates.{edl}
 use Rattle.grammar.specs.Binds.{bind}
 use Rattle.grammar.specs.Files.{read_of}
 use Rattle.table.specs.Admissions.{Admitted, admit_of}
-use Rattle.console.specs.Spans.{spans_of}
+use Rattle.console.specs.declared.page.Page.{Page}
+use Rattle.console.specs.declared.page.Page.TheVariants.{Plan as PlanPage, Refusal}
+use Rattle.console.specs.Spans.{spans_from, spans_of}
 
 -- the text of the lines 0 to n − 1, one after the other
 abbrev pub joined : (ℕ → List ℕ) → ℕ → List ℕ
@@ -25,18 +26,9 @@ joined line (suc n) = joined line n ++ line n
 abbrev pub feed : List ℕ
 feed = 10 ∷ []
 
--- how a layer is called
-abbrev pub layer_text : Layer → List ℕ
-layer_text Bytes = codes "bytes"
-layer_text Sheet = codes "sheet"
-layer_text Plan = codes "plan"
-layer_text Script = codes "script"
-layer_text Run = codes "run"
-
 -- a refusal: `refused NUMBER LAYER line LINE`
 abbrev pub refusal_text : Fault → List ℕ
-refusal_text f =
-    codes "refused " ++ (decimal f.number ++ (codes " " ++ (layer_text f.layer ++ (codes " line " ++ (decimal f.line ++ feed)))))
+refusal_text f = fault_text f ++ feed
 
 -- the name, the work and period, and the allowance and period of the task at a place
 abbrev pub name_at : Admitted → ℕ → Name
@@ -73,7 +65,12 @@ awake_lines H awake = codes "awake" ++ (spans_of (cyclic H awake) H ++ (feed ++ 
 unfoldable pub awake_text : Admitted → List ℕ
 awake_text a = awake_lines a.cycle (edl a.works a.cycle)
 
--- a task's first job: `NAME primary SPANS spare SPANS`, from the owners of the ticks of both boards up to its first deadline
+-- a task's first job: `NAME primary SPANS spare SPANS`, from the ticks of both boards, marked where the task owns them
+abbrev pub owned_line : Name → List Bool → List Bool → List ℕ
+owned_line n primary spare =
+    spelled n ++ (codes " primary" ++ (spans_from 0 None primary ++ (codes " spare" ++ (spans_from 0 None spare ++ feed))))
+
+-- the same, from the owners of the ticks of both boards up to its first deadline
 abbrev pub first_line : Name → ℕ → (ℕ → Option ℕ) → (ℕ → Option ℕ) → ℕ → List ℕ
 first_line n i primary spare period =
     spelled n ++ (codes " primary" ++ (spans_of (λ t. is i (primary t)) period ++ (codes " spare" ++ (spans_of (λ t. is i (spare t)) period ++ feed))))
@@ -108,3 +105,12 @@ page_text (Err f) = refusal_text f
 -- the table that a machine file means: its sheet, admitted; or the first refusal
 unfoldable pub table_in : List ℕ → Result Admitted Fault
 table_in text = bind (read_of text) admit_of
+
+-- the text of a page, and whether it is a plan
+abbrev pub text_of : Page → List ℕ
+text_of (PlanPage text) = text.items
+text_of (Refusal text) = text.items
+
+abbrev pub is_plan : Page → Bool
+is_plan (PlanPage text) = true
+is_plan (Refusal text) = false

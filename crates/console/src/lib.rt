@@ -6,5 +6,5 @@ mod page;
 mod text;
 mod ticks;
 
-pub use input::read_up_to;
+pub use input::{read_file, read_up_to};
 pub use page::{Page, put_refusal, spare_page};

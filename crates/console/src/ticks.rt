@@ -1,30 +1,45 @@
 //! Ticks in which a board is awake, and who owns them.
-ghost use Rattle.std.specs.Prelude.{◌≡◌, ℕ, ◌<◌, ◌≤◌, map, length, IfOk, None, slice_index_or};
+ghost use Rattle.std.specs.Prelude.{◌≡◌, ◌≤◌, map, length, IfOk};
 ghost use Rattle.std.specs.List.{range_with_len};
 ghost use Rattle.theory.specs.Laws.{cyclic};
 ghost use Rattle.theory.specs.Slots.{is, owns};
-ghost use Rattle.table.specs.Workloads.{loads_in};
+ghost use Rattle.table.specs.Workloads.{loads_in, turn_of};
+ghost use Rattle.wake.specs.Edls.{planned_of};
+ghost use Rattle.console.specs.Pages.{rests_in};
 
 use std::alloc::{AllocError, Global};
 use table::Workload;
-use wake::{SlotMachine, WakePlan};
+use wake::{EdlPlan, SlotMachine, WakePlan};
 
-// Of each of the first `n` ticks, whether a board that follows a plan is awake in it.
-pub(crate) fn awake_marks<W: WakePlan>(
-    heap: Global,
-    plan: &W,
-    n: u32,
-) -> Result<Vec<bool>, AllocError>
-    ensures { IfOk result (λ v. v.items ≡ map (cyclic (W.WakePlan.plan plan.now).cycle (W.WakePlan.plan plan.now).awake) (range_with_len 0 n)) }
+// Of each tick of its cycle, whether a board that follows a plan is awake in it.
+pub(crate) fn awake_marks<W: WakePlan>(heap: Global, plan: &W) -> Result<Vec<bool>, AllocError>
+    ensures { IfOk result (λ v. v.items ≡ map (cyclic (W.WakePlan.plan plan.now).cycle (W.WakePlan.plan plan.now).awake) (range_with_len 0 (W.WakePlan.plan plan.now).cycle)) }
 {
-    let mut marks = Vec::new(heap);
-    for t in 0..n {
-        marks.push(plan.is_awake(t))?;
-    }
-    Ok(marks)
+    (0..plan.cycle()).map(|t| plan.is_awake(t)).collect(heap)
 }
 
-// Who owns each of the first `n` ticks of a board that serves a workload and follows a plan.
+// In how many ticks of its cycle a board that follows a plan rests.
+#[tactic(auto, using(crate::proofs::Rests::whole_cycle))]
+pub(crate) fn cycle_rests<W: WakePlan>(plan: &W) -> u32
+    ensures { result ≡ rests_in (W.WakePlan.plan plan.now).cycle (W.WakePlan.plan plan.now).awake }
+{
+    plan.rest_ticks(0, plan.cycle()).unwrap_or(0)
+}
+
+// The plan that works as late as it can, in memory with a byte for each tick of the cycle.
+pub(crate) fn late_plan<'a>(memory: &'a mut [u8], workload: &Workload) -> EdlPlan<'a>
+    requires { turn_of workload.now ≤ length memory.old }
+    ensures { planned_of result ≡ workload.now }
+{
+    let mut plan = EdlPlan::blank(memory);
+    let Ok(()) = plan.lay(workload) else {
+        unreachable!()
+    };
+    plan
+}
+
+// Who owns each of the first `n` ticks of a board that serves a workload and follows a plan. A loop and no chain, of which a closure that
+// steps a machine would say nothing.
 pub(crate) fn owners<W: WakePlan>(
     heap: Global,
     workload: &Workload,
@@ -37,36 +52,26 @@ pub(crate) fn owners<W: WakePlan>(
     let mut machine = SlotMachine::start(workload);
     let mut owners = Vec::new(heap);
     for t in 0..n {
-        let awake = plan.is_awake(t);
-        let owner = machine.pass(awake);
-        owners.push(owner)?;
+        owners.push(machine.pass(plan.is_awake(t)))?;
     }
     Ok(owners)
 }
 
-// Whether a place is the owner.
-fn is_owner(owner: Option<usize>, place: usize) -> bool
-    ensures { result ≡ is place owner }
-{
-    match owner {
-        Some(owner) => place == owner,
-        None => false,
-    }
-}
-
-// Of each of the first `n` ticks, whether the place owns it.
+// Of each tick with an owner, whether the place owns it.
+#[tactic(auto, unfolding(theory::specs::Slots::is))]
 pub(crate) fn owned_marks(
     heap: Global,
     owners: &[Option<usize>],
     place: usize,
-    n: u32,
 ) -> Result<Vec<bool>, AllocError>
-    requires { n ≤ length owners.now }
-    ensures { IfOk result (λ v. v.items ≡ map (λ t. is place (slice_index_or owners.now t None)) (range_with_len 0 n)) }
+    ensures { IfOk result (λ v. v.items ≡ map (is place) owners.now) }
 {
-    let mut marks = Vec::new(heap);
-    for t in 0..n {
-        marks.push(is_owner(owners[t as usize], place))?;
-    }
-    Ok(marks)
+    owners
+        .iter()
+        .map(
+            |owner|
+                ensures { result ≡ is place owner.now }
+            { *owner == Some(place) },
+        )
+        .collect(heap)
 }

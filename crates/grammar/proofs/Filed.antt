@@ -1,7 +1,9 @@
 -- What is read of a text is what it means, and a text is refused at the first line at fault.
-use Rattle.std.proofs.Common.{◌≡◌, ℕ, zero, suc, ◌+◌, ◌<◌, ◌⊎◌, List, [], ◌∷◌, length, Ok, Err, Result, sym, refl, ap, ◌∙◌, subst, ⊎_elim, arith}
+use Rattle.std.proofs.Common.{◌≡◌, ℕ, zero, suc, ◌+◌, ◌<◌, ◌⊎◌, List, [], ◌∷◌, length, Some, Ok, Err, Result, sym, refl, ap, ◌∙◌, subst, ⊎_elim, arith}
 use Rattle.std.proofs.lemmas.Bool.{cases_order}
 use Rattle.basis.specs.declared.fault.Fault.{Fault}
+use Rattle.basis.specs.Faults.{number_of}
+use Rattle.basis.proofs.Reasons.{same_reason}
 use Rattle.grammar.specs.declared.section.Section.TheVariants.{Levels, Tasks}
 use Rattle.grammar.specs.Binds.{bind}
 use Rattle.grammar.specs.Bodies.{Told, bodies_of}
@@ -9,7 +11,7 @@ use Rattle.grammar.specs.Contents.{Listed, contents_of}
 use Rattle.grammar.specs.Files.{content_of, file_of, unread_of, content_after, script_start}
 use Rattle.grammar.specs.Grammar.{Sequence, Announces, Formed, heading_line, LevelRight, TaskRight, Means}
 use Rattle.grammar.specs.Passes.{bad_level, bad_task, rising_from, apart_from}
-use Rattle.grammar.specs.Refusals.{NotOfForm, layout, BodiesFault, LevelFault, TaskFault, AtFault, layer_of, Refused, ReadAs}
+use Rattle.grammar.specs.Refusals.{NotOfForm, layout, BodiesFault, LevelFault, TaskFault, AtFault, Refused, ReadAs}
 use Rattle.grammar.specs.Sheets.{Content}
 use Rattle.grammar.specs.Texts.{Lines, lines, bytes_from}
 use Rattle.grammar.proofs.Announced.{listed, sequence_of, contents-sound, contents_complete, contents_right, contents_fail}
@@ -212,8 +214,7 @@ module _ (text : List ℕ) where
           subst (Refused text) (sym w.1)
           (record {
             before = 5 + w.0;
-            line = omega arith;
-            layer = refl;
+            line = ap Some (omega arith);
             fault = record { sequence = s; rest = rest; k = w.0; contents = a; line = refl; wrong = w.2 };
             first = λ j few v.
                 let same = announced_once v.sequence s v.rest rest v.contents a in
@@ -241,8 +242,7 @@ module _ (text : List ℕ) where
             subst (Refused text) (sym w.2)
             (record {
               before = x.0.levels.heading + w.0;
-              line = omega arith;
-              layer = refl;
+              line = ap Some (omega arith);
               fault = record {
                 sequence = s;
                 content = content_of x.0;
@@ -278,8 +278,7 @@ module _ (text : List ℕ) where
               subst (Refused text) (sym w.2)
               (record {
                 before = x.0.tasks.heading + w.0;
-                line = omega arith;
-                layer = refl;
+                line = ap Some (omega arith);
                 fault = record {
                   sequence = s;
                   content = content_of x.0;
@@ -303,13 +302,13 @@ module _ (text : List ℕ) where
     refused₂ f h =
         let w = contents_fail (lines text) f h in
         subst (Refused text) (sym w.1)
-        (record { before = w.0; line = refl; layer = refl; fault = w.2; first = λ j few v. v (w.3 j few); earlier = earlier₂ })
+        (record { before = w.0; line = refl; fault = w.2; first = λ j few v. v (w.3 j few); earlier = earlier₂ })
 
   -- a line's bytes
   refused₁ : (f : Fault) → bytes_from 0 0 text ≡ Err f → Refused text f
   refused₁ f h =
       let w = bytes_fail text f h in
-      subst (Refused text) (sym w.1) (record { before = w.0; line = refl; layer = refl; fault = w.2; first = w.3; earlier = earlier₁ })
+      subst (Refused text) (sym w.1) (record { before = w.0; line = refl; fault = w.2; first = w.3; earlier = earlier₁ })
 
   -- a text that is refused has its fault there
   refused : (f : Fault) → file_of text ≡ Err f → Refused text f
@@ -338,19 +337,19 @@ module _ (text : List ℕ) where
   -- a text is refused with one fault
   refused-once : (f g : Fault) → Refused text f → Refused text g → f ≡ g
   refused-once f g h k =
-      ⊎_elim (λ (n : f.number ≡ g.number).
+      ⊎_elim (λ (n : number_of f.reason ≡ number_of g.reason).
       ⊎_elim (λ (b : h.before ≡ k.before).
-      let line : f.line ≡ g.line = omega (arith, h.line, k.line) in
-      let layer : f.layer ≡ g.layer = h.layer ∙ ap layer_of n ∙ sym k.layer in
-      (λ i. record { number = n i; layer = layer i; line = line i }))
+      let line : f.line ≡ g.line = h.line ∙ ap (λ (x : ℕ). Some (x + 1)) b ∙ sym k.line in
+      let why : f.reason ≡ g.reason = same_reason f.reason g.reason n in
+      (λ i. record { reason = why i; line = line i }))
       (λ (o : (h.before < k.before) ⊎ (k.before < h.before)).
       absurd (⊎_elim (λ (l : h.before < k.before). k.first h.before l (subst (λ n. AtFault text n h.before) n h.fault))
       (λ (l : k.before < h.before). h.first k.before l (subst (λ n. AtFault text n k.before) (sym n) k.fault)) o))
       (cases_order h.before k.before))
-      (λ (o : (f.number < g.number) ⊎ (g.number < f.number)).
-      absurd (⊎_elim (λ (l : f.number < g.number). k.earlier f.number h.before l h.fault)
-      (λ (l : g.number < f.number). h.earlier g.number k.before l k.fault) o))
-      (cases_order f.number g.number)
+      (λ (o : (number_of f.reason < number_of g.reason) ⊎ (number_of g.reason < number_of f.reason)).
+      absurd (⊎_elim (λ (l : number_of f.reason < number_of g.reason). k.earlier (number_of f.reason) h.before l h.fault)
+      (λ (l : number_of g.reason < number_of f.reason). h.earlier (number_of g.reason) k.before l k.fault) o))
+      (cases_order (number_of f.reason) (number_of g.reason))
 
   -- what reading answers and its sheet then holds is what the text means, or how it is refused
   pub read_as : ReadAs text (unread_of (file_of text)) (content_after (file_of text))
@@ -376,5 +375,5 @@ module _ (text : List ℕ) where
       is_err (Err e) f h = let k : e ≡ f = cc in (λ i. Err (k i))
 
       refuses : (r : Result (Content × Lines) Fault) → file_of text ≡ r → (f : Fault) → Refused text f → r ≡ Err f
-      refuses (Ok x) e f h = absurd ((accepted x.0 x.1 e).1 f.number h.before h.fault)
+      refuses (Ok x) e f h = absurd ((accepted x.0 x.1 e).1 (number_of f.reason) h.before h.fault)
       refuses (Err g) e f h = let k : g ≡ f = refused-once g f (refused g e) h in (λ i. Err (k i))

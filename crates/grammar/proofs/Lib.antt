@@ -7,6 +7,7 @@ pub mod Filed
 pub mod Fronts
 pub mod Marked
 pub mod Ranked
+pub mod Rises
 pub mod Scriptless
 pub mod Sectioned
 pub mod Spelled

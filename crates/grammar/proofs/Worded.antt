@@ -1,5 +1,5 @@
 -- The words of a line, and the lines of the contents and the bodies, are as the grammar says.
-use Rattle.std.proofs.Common.{◌≡◌, ℕ, suc, ◌+◌, ◌<◌, ◌≤◌, Bool, true, false, cond, eqb, ltb, ◌≢◌, List, [], ◌∷◌, ◌++◌, length, take, drop, Some, None, Ok, Err, Option, sym, refl, ap, ◌∙◌, subst, add-one, arith, length-append}
+use Rattle.std.proofs.Common.{◌≡◌, ℕ, suc, ◌+◌, ◌<◌, ◌≤◌, Bool, true, false, cond, not, eqb, ltb, ◌≢◌, List, [], ◌∷◌, ◌++◌, length, take, drop, Some, None, Ok, Err, Option, sym, refl, ap, ◌∙◌, subst, add-one, arith, length-append}
 use Rattle.std.specs.Option.{option_map, ok_or}
 use Rattle.std.proofs.lemmas.Slice.Eq.{bytes_eq-Decides}
 use Rattle.std.proofs.lemmas.List.{append-nil, take_all, take_at, drop_at, drop-drop}
@@ -50,9 +50,12 @@ split : (s : List ℕ) → word_length s < length s → s ≡ take (word_length 
 split [] h = absurd (omega arith)
 split (b ∷ bs) h =
     elim (eqb b 32) as
-    (λ v. (v ≡ true → b ≡ 32) → cond v 0 (suc (word_length bs)) < suc (length bs) →
-    b ∷ bs ≡ take (cond v 0 (suc (word_length bs))) (b ∷ bs) ++ 32 ∷ drop (suc (cond v 0 (suc (word_length bs)))) (b ∷ bs))
-    [ true ↦ λ z _. ap (λ b. b ∷ bs) (z refl) | false ↦ λ _ g. ap (λ x. b ∷ x) (split bs (omega arith)) ]
+    (λ v. (v ≡ true → b ≡ 32) → cond (not v) (1 + word_length bs) 0 < suc (length bs) →
+    b ∷ bs ≡ take (cond (not v) (1 + word_length bs) 0) (b ∷ bs) ++ 32 ∷ drop (suc (cond (not v) (1 + word_length bs) 0)) (b ∷ bs)) [
+      | true ↦ λ z _. ap (λ b. b ∷ bs) (z refl)
+      | false ↦ λ _ g. let e : suc (word_length bs) ≡ 1 + word_length bs = omega arith in
+          subst (λ k. b ∷ bs ≡ take k (b ∷ bs) ++ 32 ∷ drop k bs) e (ap (λ x. b ∷ x) (split bs (omega arith)))
+    ]
     (eqb-true b 32) h
 
 -- what the first word says of a line

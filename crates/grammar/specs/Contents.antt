@@ -3,8 +3,8 @@ use Rattle.std.specs.Prelude.{ℕ, cond, List, [], ◌∷◌, Some, None, Ok, Er
 use Rattle.std.specs.Str.{bytes_eq}
 use Rattle.std.specs.Option.{ok_or}
 use Rattle.basis.specs.declared.fault.Fault.{Fault}
-use Rattle.basis.specs.declared.fault.Layer.TheVariants.{Sheet}
-use Rattle.basis.specs.Faults.{fault_of}
+use Rattle.basis.specs.declared.fault.Reason.TheVariants.{Contents}
+use Rattle.basis.specs.Faults.{fault_at}
 use Rattle.grammar.specs.declared.section.Entry.{Entry}
 use Rattle.grammar.specs.declared.section.Section.{Section}
 use Rattle.grammar.specs.declared.section.Section.TheVariants.{Levels, Power, Tasks}
@@ -34,7 +34,7 @@ most_lines Tasks = 16
 
 -- the fault of a line that is not of the contents' form
 abbrev pub bad_contents : ℕ → Fault
-bad_contents at = fault_of 2 Sheet at
+bad_contents at = fault_at Contents at
 
 -- a line of the contents: a section's name and its number of lines
 abbrev pub entry_of : Fault → List ℕ → Result Entry Fault

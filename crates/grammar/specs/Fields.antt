@@ -1,8 +1,8 @@
 -- What the lines of the bodies say, word by word.
 use Rattle.std.specs.Prelude.{ℕ, cond, List, Some, None, Ok, Err, Result}
 use Rattle.basis.specs.declared.fault.Fault.{Fault}
-use Rattle.basis.specs.declared.fault.Layer.TheVariants.{Sheet}
-use Rattle.basis.specs.Faults.{fault_of}
+use Rattle.basis.specs.declared.fault.Reason.TheVariants.{Body}
+use Rattle.basis.specs.Faults.{fault_at}
 use Rattle.grammar.specs.declared.task.Power.{Power}
 use Rattle.grammar.specs.declared.task.TaskLine.{TaskLine}
 use Rattle.grammar.specs.Binds.{bind}
@@ -37,7 +37,7 @@ last_number f low high (Some (number v at, None)) = cond (within low high v) (Ok
 
 -- the fault of a line that is not of its form
 abbrev pub bad_line : ℕ → Fault
-bad_line at = fault_of 3 Sheet at
+bad_line at = fault_at Body at
 
 -- a level line: one number from 1 to 100
 abbrev pub level_of : ℕ → List ℕ → Result ℕ Fault

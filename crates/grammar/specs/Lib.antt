@@ -7,7 +7,6 @@ pub mod Files
 pub mod Grammar
 pub mod Names
 pub mod Passes
-pub mod Reasons
 pub mod Refusals
 pub mod Scripts
 pub mod Sheets

@@ -2,14 +2,14 @@
 use Rattle.std.specs.Prelude.{ℕ, ◌+◌, Bool, false, cond, ◌||◌, List, [], ◌∷◌, ◌++◌, Ok, Err, codes, Result, ◌==◌, nat_lt}
 use Rattle.std.specs.Str.{bytes_eq}
 use Rattle.basis.specs.declared.fault.Fault.{Fault}
-use Rattle.basis.specs.declared.fault.Layer.TheVariants.{Sheet}
-use Rattle.basis.specs.Faults.{fault_of}
+use Rattle.basis.specs.declared.fault.Reason.TheVariants.{Level, Task}
+use Rattle.basis.specs.Faults.{fault_at}
 use Rattle.grammar.specs.declared.task.TaskLine.{TaskLine}
 use Rattle.grammar.specs.Names.{spelled}
 
 -- the fault of a level that is not above the one before, or of the last where it is not 100
 abbrev pub bad_level : ℕ → Fault
-bad_level at = fault_of 4 Sheet at
+bad_level at = fault_at Level at
 
 -- levels rise above `last`, which stands on line `at`, to 100
 abbrev pub rising_from : ℕ → ℕ → List ℕ → Result (Unit {0}) Fault
@@ -27,7 +27,7 @@ is_barred t earlier = is_named (spelled t.name) earlier || (bytes_eq (spelled t.
 
 -- the fault of such a task
 abbrev pub bad_task : ℕ → Fault
-bad_task at = fault_of 5 Sheet at
+bad_task at = fault_at Task at
 
 -- no task is barred, of which the first stands on line `at` and has those of `earlier` before it
 abbrev pub apart_from : ℕ → List TaskLine → List TaskLine → Result (Unit {0}) Fault

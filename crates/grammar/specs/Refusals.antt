@@ -2,9 +2,8 @@
 use Rattle.std.specs.Prelude.{◌≡◌, ℕ, zero, suc, ◌+◌, ◌<◌, ◌≤◌, Bool, false, cond, ◌||◌, ◌≢◌, ◌⊎◌, List, [], ◌∷◌, ◌++◌, length, replicate, Some, Ok, Err, codes, Result, ◌==◌}
 use Rattle.std.specs.List.{slice_get}
 use Rattle.basis.specs.declared.fault.Fault.{Fault}
-use Rattle.basis.specs.declared.fault.Layer.{Layer}
-use Rattle.basis.specs.declared.fault.Layer.TheVariants.{Bytes, Sheet, Script}
-use Rattle.basis.specs.Faults.{fault_of}
+use Rattle.basis.specs.declared.fault.Reason.TheVariants.{Script}
+use Rattle.basis.specs.Faults.{number_of, fault_at}
 use Rattle.grammar.specs.declared.letters.Letters.{Letters as LetterPair}
 use Rattle.grammar.specs.declared.section.Entry.{Entry}
 use Rattle.grammar.specs.declared.section.Section.{Section}
@@ -117,18 +116,13 @@ AtFault text (suc (suc (suc (suc zero)))) i = LevelFault text i
 AtFault text (suc (suc (suc (suc (suc zero))))) i = TaskFault text i
 AtFault text (suc (suc (suc (suc (suc (suc n)))))) i = ⊥
 
--- the layer that finds a fault of this number
-abbrev pub layer_of : ℕ → Layer
-layer_of n = cond (n == 1) Bytes Sheet
-
 -- a text is refused with this fault: no line is at fault by an earlier number, and its line is the first at fault by its own
 pub record Refused (text : List ℕ) (f : Fault) : Type 0 where
   pub before : ℕ
-  pub line : f.line ≡ before + 1
-  pub layer : f.layer ≡ layer_of f.number
-  pub fault : AtFault text f.number before
-  pub first : (j : ℕ) → j < before → AtFault text f.number j → ⊥
-  pub earlier : (n j : ℕ) → n < f.number → AtFault text n j → ⊥
+  pub line : f.line ≡ Some (before + 1)
+  pub fault : AtFault text (number_of f.reason) before
+  pub first : (j : ℕ) → j < before → AtFault text (number_of f.reason) j → ⊥
+  pub earlier : (n j : ℕ) → n < number_of f.reason → AtFault text n j → ⊥
 
 -- reading a text answers the line and the lines of its script, and its sheet holds c, exactly when the text means that;
 -- it answers a fault exactly when the text is refused with it; and a text means one thing
@@ -146,7 +140,7 @@ ScriptFault ls i = (l : List ℕ) × (slice_get ls i ≡ Some l) × ((x : Letter
 -- a script, of which the first line is line `at` of the file, is refused with this fault: its line is the first at fault
 pub record ScriptRefused (at : ℕ) (ls : Lines) (f : Fault) : Type 0 where
   pub before : ℕ
-  pub is : f ≡ fault_of 9 Script (at + before)
+  pub is : f ≡ fault_at Script (at + before)
   pub fault : ScriptFault ls before
   pub first : (j : ℕ) → j < before → ScriptFault ls j → ⊥
 

@@ -1,8 +1,8 @@
 -- The lines of the script.
 use Rattle.std.specs.Prelude.{ℕ, ◌+◌, Bool, cond, ◌&&◌, ◌||◌, List, [], ◌∷◌, Ok, Err, Result, ◌==◌}
 use Rattle.basis.specs.declared.fault.Fault.{Fault}
-use Rattle.basis.specs.declared.fault.Layer.TheVariants.{Script}
-use Rattle.basis.specs.Faults.{fault_of}
+use Rattle.basis.specs.declared.fault.Reason.TheVariants.{Script}
+use Rattle.basis.specs.Faults.{fault_at}
 use Rattle.grammar.specs.declared.letters.Letters.{Letters}
 use Rattle.grammar.specs.Binds.{bind}
 use Rattle.grammar.specs.Texts.{Lines}
@@ -13,7 +13,7 @@ mark b = b == 109 || (b == 103 || (b == 98 || (b == 120 || b == 114)))
 
 -- the fault of a line that is not two such letters
 abbrev pub bad_script : ℕ → Fault
-bad_script at = fault_of 9 Script at
+bad_script at = fault_at Script at
 
 -- a script line is two such letters and nothing else
 abbrev pub script_line_of : ℕ → List ℕ → Result Letters Fault

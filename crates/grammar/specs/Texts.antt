@@ -1,8 +1,9 @@
 -- Texts, as bytes and as lines.
-use Rattle.std.specs.Prelude.{ℕ, suc, ◌+◌, Bool, cond, ◌&&◌, ◌||◌, List, [], ◌∷◌, Ok, Err, Result, ◌==◌, nat_le, nat_lt}
+use Rattle.std.specs.Prelude.{ℕ, ◌+◌, Bool, cond, not, ◌&&◌, ◌||◌, List, [], ◌∷◌, Ok, Err, Result, ◌==◌, nat_le, nat_lt}
+use Rattle.std.specs.List.{prefix_len}
 use Rattle.basis.specs.declared.fault.Fault.{Fault}
-use Rattle.basis.specs.declared.fault.Layer.TheVariants.{Bytes}
-use Rattle.basis.specs.Faults.{fault_of}
+use Rattle.basis.specs.declared.fault.Reason.TheVariants.{Bytes}
+use Rattle.basis.specs.Faults.{fault_at}
 use Rattle.grammar.specs.Binds.{bind}
 
 -- what a line may have: a letter, a digit or a space
@@ -11,7 +12,7 @@ allowed b = (nat_le 97 b && nat_le b 122) || ((nat_le 48 b && nat_le b 57) || b 
 
 -- the fault of a line with a byte that it may not have, with too many bytes, or without its line feed
 abbrev pub bad_bytes : ℕ → Fault
-bad_bytes at = fault_of 1 Bytes at
+bad_bytes at = fault_at Bytes at
 
 -- the first line that its bytes, its length or its end put at fault, where `before` lines are past, and `column` bytes of the next
 abbrev pub bytes_from : ℕ → ℕ → List ℕ → Result (Unit {0}) Fault
@@ -22,8 +23,7 @@ bytes_from before column (b ∷ bs) =
 
 -- how many bytes stand before the first `end`, or in all
 abbrev pub length_before : ℕ → List ℕ → ℕ
-length_before end [] = 0
-length_before end (b ∷ bs) = cond (b == end) 0 (suc (length_before end bs))
+length_before end bytes = prefix_len (λ b. not (b == end)) bytes
 
 -- lines, each without its line feed
 abbrev pub Lines : Type 0

@@ -8,12 +8,7 @@ pub fn length_before(bytes: &[u8], end: u8) -> usize
     ensures within { result ≤ length bytes.now }
     ensures value { result ≡ length_before end bytes.now }
 {
-    for (i, b) in bytes.iter().enumerate() {
-        if *b == end {
-            return i;
-        }
-    }
-    bytes.len()
+    bytes.iter().take_while(|b| **b != end).count()
 }
 
 // Whether two strings of bytes are the same: every fixed word of the format is compared by it.

@@ -3,16 +3,14 @@
 #![tactic(auto)]
 
 pub mod bytes;
-mod faults;
 pub mod letters;
 pub mod name;
-pub mod reason;
 pub mod section;
 pub mod task;
 
+pub use basis::Reason;
 pub use bytes::{length_before, same};
 pub use letters::Letters;
 pub use name::Name;
-pub use reason::Reason;
 pub use section::{Entry, Section};
 pub use task::{Power, TaskLine};

@@ -4,18 +4,29 @@ ghost use Rattle.grammar.specs.Tasks.{name_for};
 ghost use Rattle.grammar.specs.Names.{spelled, name_of};
 
 use crate::bytes::length_before;
+use basis::Blank;
 
 // The most letters that a name may have.
 const LONGEST: usize = 8;
 
 // A task's name: 1 to 8 letters, then zeros. The blank name is all zeros. Two names are the same exactly when their bytes are.
-#[derive(Clone, Copy, Debug)]
+// Its bytes are in a fixed place, since nothing is allocated, and may be any, so it is no `str`.
+#[derive(Clone, Copy, Debug, PartialEq, Eq)]
 pub struct Name {
     bytes: [u8; 8],
 }
 
 // The name of no task.
 pub const NO_NAME: Name = Name { bytes: [0; 8] };
+
+impl Blank for Name {
+    ghost use Rattle.std.specs.Prelude.{[]};
+    ghost use Rattle.grammar.specs.Tasks.{name_for};
+
+    ghost BLANK = { name_for [] };
+
+    const BLANK: Name = NO_NAME;
+}
 
 impl Name {
     // The name that `text` spells, with zeros after its letters: for the reader of words, which knows that no name is longer.

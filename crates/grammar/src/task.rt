@@ -1,5 +1,6 @@
 //! What the lines of the bodies say.
 use crate::name::{NO_NAME, Name};
+use basis::Blank;
 
 // A task as its line gives it: the work and the period are in ticks.
 #[derive(Clone, Copy, Debug)]
@@ -23,6 +24,14 @@ pub const NO_TASK: TaskLine = TaskLine {
     work: 0,
     period: 0,
 };
+
+impl Blank for TaskLine {
+    ghost use Rattle.grammar.specs.Tasks.{no_task};
+
+    ghost BLANK = { no_task };
+
+    const BLANK: TaskLine = NO_TASK;
+}
 
 // The power of the blank sheet.
 pub const NO_POWER: Power = Power {

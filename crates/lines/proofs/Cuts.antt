@@ -1,5 +1,5 @@
 -- A text cut at its first line feed.
-use Rattle.std.proofs.Common.{◌≡◌, ℕ, suc, ◌+◌, ◌-◌, ◌<◌, ◌≤◌, true, false, cond, eqb, List, [], ◌∷◌, length, take, drop, refl, ap, add-one, arith}
+use Rattle.std.proofs.Common.{◌≡◌, ℕ, suc, ◌+◌, ◌-◌, ◌<◌, ◌≤◌, true, false, cond, not, eqb, List, [], ◌∷◌, length, take, drop, refl, ap, subst, add-one, arith}
 use native.Mathlib.Nat.{sub-zero}
 use Rattle.std.proofs.lemmas.List.{take_rest}
 use Rattle.grammar.specs.Texts.{length_before, lines, onto}
@@ -12,16 +12,19 @@ pub cut : (s : List ℕ) → line_length s < length s → lines s ≡ take (line
 cut [] h = absurd (omega arith)
 cut (b ∷ bs) h =
     elim (eqb b 10) as
-    (λ v. cond v 0 (suc (line_length bs)) < suc (length bs) →
+    (λ v. cond (not v) (1 + line_length bs) 0 < suc (length bs) →
     cond v ([] ∷ lines bs) (onto b (lines bs))
-    ≡ take (cond v 0 (suc (line_length bs))) (b ∷ bs) ∷ lines (drop (suc (cond v 0 (suc (line_length bs)))) (b ∷ bs)))
-    [ true ↦ λ _. refl | false ↦ λ g. ap (onto b) (cut bs (omega arith)) ] h
+    ≡ take (cond (not v) (1 + line_length bs) 0) (b ∷ bs) ∷ lines (drop (suc (cond (not v) (1 + line_length bs) 0)) (b ∷ bs))) [
+      | true ↦ λ _. refl
+      | false ↦ λ g. let e : suc (line_length bs) ≡ 1 + line_length bs = omega arith in
+          subst (λ k. onto b (lines bs) ≡ take k (b ∷ bs) ∷ lines (drop k bs)) e (ap (onto b) (cut bs (omega arith)))
+    ] h
 
 -- a text without a feed has no line
 pub none : (s : List ℕ) → length s ≤ line_length s → lines s ≡ []
 none [] g = refl
 none (b ∷ bs) g =
-    elim (eqb b 10) as (λ v. suc (length bs) ≤ cond v 0 (suc (line_length bs)) → cond v ([] ∷ lines bs) (onto b (lines bs)) ≡ [])
+    elim (eqb b 10) as (λ v. suc (length bs) ≤ cond (not v) (1 + line_length bs) 0 → cond v ([] ∷ lines bs) (onto b (lines bs)) ≡ [])
     [ true ↦ λ k. absurd (omega arith) | false ↦ λ k. ap (onto b) (none bs (omega arith)) ] g
 
 -- the first line as the code cuts it off

@@ -6,7 +6,8 @@ use Rattle.basis.specs.declared.fault.Fault.{Fault}
 use Rattle.grammar.specs.Words.{Seen, name, number, Left}
 use Rattle.lines.specs.declared.words.Word.{Word}
 use Rattle.lines.specs.declared.words.Word.TheVariants.{Name, Number}
-use Rattle.lines.specs.declared.words.Tail.{Tail}
+use Rattle.lines.specs.declared.tail.Tail.{Tail}
+use Rattle.lines.specs.declared.fields.Fields.{Fields}
 
 -- the word that the code borrows
 abbrev pub seen_word : Word → Seen
@@ -26,12 +27,12 @@ seen_tail t = (t.at, t.bytes.now)
 abbrev pub seen_next : (Word × Option Tail) → Seen × Option Left
 seen_next x = (seen_word x.0, option_map seen_tail x.1)
 
--- the name and the tail that the code borrows
-abbrev pub name_in : Result (Bor (List ℕ) × Tail) Fault → Result (List ℕ × Left) Fault
-name_in (Ok x) = Ok (x.0.now, seen_tail x.1)
+-- the name and what is left that the code borrows
+abbrev pub name_in : Result (Bor (List ℕ) × Fields) Fault → Result (List ℕ × Left) Fault
+name_in (Ok x) = Ok (x.0.now, seen_tail x.1.tail)
 name_in (Err e) = Err e
 
--- the number, and the tail that the code borrows
-abbrev pub number_in : Result (ℕ × Tail) Fault → Result (ℕ × Left) Fault
-number_in (Ok x) = Ok (x.0, seen_tail x.1)
+-- the number, and what is left that the code borrows
+abbrev pub number_in : Result (ℕ × Fields) Fault → Result (ℕ × Left) Fault
+number_in (Ok x) = Ok (x.0, seen_tail x.1.tail)
 number_in (Err e) = Err e

@@ -2,7 +2,8 @@
 ghost use Rattle.std.specs.Prelude.{◌≡◌, ◌≤◌, IfOk};
 ghost use Rattle.grammar.specs.Contents.{most_lines, entry_of};
 
-use crate::words::{Tail, Word, next_word};
+use crate::tail::Tail;
+use crate::words::Word;
 use basis::Fault;
 use grammar::{Entry, Section};
 
@@ -11,13 +12,13 @@ pub fn read_entry(line: &[u8], fault: Fault) -> Result<Entry, Fault>
     ensures few { IfOk result (λ e. e.count ≤ most_lines e.section) }
     ensures value { result ≡ entry_of fault line.now }
 {
-    let Some((Word::Name { text, .. }, Some(rest))) = next_word(Tail { bytes: line, at: 0 }) else {
+    let Some((Word::Name { text, .. }, Some(rest))) = Tail::of(line).next_word() else {
         return Err(fault);
     };
     let Some(section) = Section::named(text) else {
         return Err(fault);
     };
-    let Some((Word::Number { value: count, .. }, None)) = next_word(rest) else {
+    let Some((Word::Number { value: count, .. }, None)) = rest.next_word() else {
         return Err(fault);
     };
     if count < 1 || count > section.most_lines() {

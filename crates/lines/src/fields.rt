@@ -1,10 +1,10 @@
 //! The lines of the bodies, word by word: a level, the power figures, a task.
-ghost use Rattle.std.specs.Prelude.{◌≡◌, ◌+◌, ◌^◌, ◌<◌, ◌≤◌, length, IfOk};
-ghost use Rattle.grammar.specs.Words.{next_word};
-ghost use Rattle.grammar.specs.Fields.{next_name, next_number, last_number, level_of, power_of, task_of};
-ghost use Rattle.lines.specs.Views.{name_in, number_in};
+ghost use Rattle.std.specs.Prelude.{◌≡◌, ◌≤◌, length, IfOk};
+ghost use Rattle.grammar.specs.Fields.{bad_line, word_in, next_name, next_number, last_number, level_of, power_of, task_of};
+ghost use Rattle.lines.specs.Views.{seen_tail, name_in, number_in};
 
-use crate::words::{Tail, Word, next_word};
+use crate::tail::Tail;
+use crate::words::Word;
 use basis::Fault;
 use grammar::{Name, Power, Reason, TaskLine};
 
@@ -14,60 +14,71 @@ const MOST_POWER: u32 = 10_000;
 // The longest work or period, in ticks.
 const MOST_TICKS: u32 = 30_000;
 
-// A name that starts what is left of a line, with more after it.
-fn next_name<'a>(tail: Tail<'a>, fault: Fault) -> Result<(&'a [u8], Tail<'a>), Fault>
-    requires { tail.at + length tail.bytes.now < 2 ^ 64 }
-    ensures short { IfOk result (λ x. length x.0.now ≤ 8) }
-    ensures places { IfOk result (λ x. x.1.at + length x.1.bytes.now ≡ tail.entry.at + length tail.entry.bytes.now) }
-    ensures value { name_in result ≡ next_name fault (next_word tail.entry.at tail.entry.bytes.now) }
-{
-    let Some((Word::Name { text, .. }, Some(rest))) = next_word(tail) else {
-        return Err(fault);
-    };
-    Ok((text, rest))
-}
-
-// A number from `low` to `high` that starts what is left of a line, with more after it.
-fn next_number<'a>(
+// The words of a line of a body that are not read yet, and the fault of the line where they are not of its form.
+#[derive(Clone, Copy)]
+struct Fields<'a> {
     tail: Tail<'a>,
-    low: u32,
-    high: u32,
     fault: Fault,
-) -> Result<(u32, Tail<'a>), Fault>
-    requires { tail.at + length tail.bytes.now < 2 ^ 64 }
-    ensures places { IfOk result (λ x. x.1.at + length x.1.bytes.now ≡ tail.entry.at + length tail.entry.bytes.now) }
-    ensures value { number_in result ≡ next_number fault low high (next_word tail.entry.at tail.entry.bytes.now) }
-{
-    let Some((Word::Number { value, .. }, Some(rest))) = next_word(tail) else {
-        return Err(fault);
-    };
-    if value < low || value > high {
-        return Err(fault);
-    }
-    Ok((value, rest))
 }
 
-// A number from `low` to `high` that is all of what is left of a line.
-fn last_number(tail: Tail<'_>, low: u32, high: u32, fault: Fault) -> Result<u32, Fault>
-    requires { tail.at + length tail.bytes.now < 2 ^ 64 }
-    ensures within { IfOk result (λ v. (low ≤ v) × (v ≤ high)) }
-    ensures value { result ≡ last_number fault low high (next_word tail.entry.at tail.entry.bytes.now) }
-{
-    let Some((Word::Number { value, .. }, None)) = next_word(tail) else {
-        return Err(fault);
-    };
-    if value < low || value > high {
-        return Err(fault);
+impl<'a> Fields<'a> {
+    // All words of line `at` of the file.
+    fn of(line: &'a [u8], at: usize) -> Fields<'a>
+        ensures left { seen_tail result.tail ≡ (0, line.now) }
+        ensures fault { result.fault ≡ bad_line at }
+    {
+        Fields {
+            tail: Tail::of(line),
+            fault: Reason::Body.at(at),
+        }
     }
-    Ok(value)
+
+    // A name with more words after it.
+    fn name(self) -> Result<(&'a [u8], Fields<'a>), Fault>
+        ensures short { IfOk result (λ x. length x.0.now ≤ 8) }
+        ensures fault { IfOk result (λ x. x.1.fault ≡ self.entry.fault) }
+        ensures value { name_in result ≡ next_name self.entry.fault (word_in (seen_tail self.entry.tail)) }
+    {
+        let Some((Word::Name { text, .. }, Some(tail))) = self.tail.next_word() else {
+            return Err(self.fault);
+        };
+        Ok((text, Fields { tail, ..self }))
+    }
+
+    // A number from `low` to `high` with more words after it.
+    fn number(self, low: u32, high: u32) -> Result<(u32, Fields<'a>), Fault>
+        ensures fault { IfOk result (λ x. x.1.fault ≡ self.entry.fault) }
+        ensures value { number_in result ≡ next_number self.entry.fault low high (word_in (seen_tail self.entry.tail)) }
+    {
+        let Some((Word::Number { value, .. }, Some(tail))) = self.tail.next_word() else {
+            return Err(self.fault);
+        };
+        if value < low || value > high {
+            return Err(self.fault);
+        }
+        Ok((value, Fields { tail, ..self }))
+    }
+
+    // A number from `low` to `high` as the last word. (The two stay apart: one gives words that are left, the other must have none.)
+    fn last_number(self, low: u32, high: u32) -> Result<u32, Fault>
+        ensures within { IfOk result (λ v. (low ≤ v) × (v ≤ high)) }
+        ensures value { result ≡ last_number self.entry.fault low high (word_in (seen_tail self.entry.tail)) }
+    {
+        let Some((Word::Number { value, .. }, None)) = self.tail.next_word() else {
+            return Err(self.fault);
+        };
+        if value < low || value > high {
+            return Err(self.fault);
+        }
+        Ok(value)
+    }
 }
 
 // The level on line `at` of the file, in percent.
 pub fn read_level(line: &[u8], at: usize) -> Result<u8, Fault>
     ensures { result ≡ level_of at line.now }
 {
-    let fault = Reason::Body.at(at);
-    let level = last_number(Tail { bytes: line, at: 0 }, 1, 100, fault)?;
+    let level = Fields::of(line, at).last_number(1, 100)?;
     Ok(level as u8)
 }
 
@@ -75,10 +86,9 @@ pub fn read_level(line: &[u8], at: usize) -> Result<u8, Fault>
 pub fn read_power(line: &[u8], at: usize) -> Result<Power, Fault>
     ensures { result ≡ power_of at line.now }
 {
-    let fault = Reason::Body.at(at);
-    let (static_mw, rest) = next_number(Tail { bytes: line, at: 0 }, 0, MOST_POWER, fault)?;
-    let (steady_mw, rest) = next_number(rest, 0, MOST_POWER, fault)?;
-    let switching_mw = last_number(rest, 0, MOST_POWER, fault)?;
+    let (static_mw, rest) = Fields::of(line, at).number(0, MOST_POWER)?;
+    let (steady_mw, rest) = rest.number(0, MOST_POWER)?;
+    let switching_mw = rest.last_number(0, MOST_POWER)?;
     Ok(Power {
         static_mw,
         steady_mw,
@@ -90,10 +100,9 @@ pub fn read_power(line: &[u8], at: usize) -> Result<Power, Fault>
 pub fn read_task(line: &[u8], at: usize) -> Result<TaskLine, Fault>
     ensures { result ≡ task_of at line.now }
 {
-    let fault = Reason::Body.at(at);
-    let (text, rest) = next_name(Tail { bytes: line, at: 0 }, fault)?;
-    let (work, rest) = next_number(rest, 1, MOST_TICKS, fault)?;
-    let period = last_number(rest, 1, MOST_TICKS, fault)?;
+    let (text, rest) = Fields::of(line, at).name()?;
+    let (work, rest) = rest.number(1, MOST_TICKS)?;
+    let period = rest.last_number(1, MOST_TICKS)?;
     Ok(TaskLine {
         name: Name::of(text),
         work,

@@ -5,6 +5,7 @@ mod entry;
 mod fields;
 mod lines;
 mod script;
+mod tail;
 mod words;
 
 pub use entry::read_entry;

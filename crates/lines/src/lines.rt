@@ -16,6 +16,7 @@ fn is_allowed(b: u8) -> bool
 }
 
 // Names the first line with a byte that it may not have, with too many bytes, or without its line feed.
+// It counts lines and columns itself: cut at its feeds, a text gives a last piece that is no line and would need a rule of its own.
 pub fn check_bytes(text: &[u8]) -> Result<(), Fault>
     ensures { result ≡ bytes_from 0 0 text.now }
 {

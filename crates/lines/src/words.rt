@@ -1,10 +1,11 @@
 //! The words of a line: names and numbers, parted by one space each.
-ghost use Rattle.std.specs.Prelude.{◌≡◌, ◌+◌, ◌^◌, ◌<◌, length, IfSome};
+ghost use Rattle.std.specs.Prelude.{◌≡◌, ◌<◌, IfSome};
 ghost use Rattle.std.specs.Option.{option_map};
 ghost use Rattle.grammar.specs.Bytes.{letter, digit, spells_name, number_of};
 ghost use Rattle.grammar.specs.Words.{word_of, next_word};
 ghost use Rattle.lines.specs.Views.{seen_word, seen_next, Short};
 
+use crate::tail::Tail;
 use grammar::length_before;
 
 // A word of a line, with the place of its first byte.
@@ -12,13 +13,6 @@ use grammar::length_before;
 pub enum Word<'a> {
     Name { text: &'a [u8], at: usize },
     Number { value: u32, at: usize },
-}
-
-// What is left of a line, from its byte `at` on.
-#[derive(Clone, Copy, Debug)]
-pub struct Tail<'a> {
-    pub bytes: &'a [u8],
-    pub at: usize,
 }
 
 // Whether a name may have this byte.
@@ -63,7 +57,7 @@ fn number(piece: &[u8]) -> Option<u32>
         if !is_digit(*b) {
             return None;
         }
-        value = value * 10 + (*b - b'0') as u32;
+        value = value * 10 + u32::from(*b - b'0');
     }
     Some(value)
 }
@@ -76,28 +70,25 @@ fn word_of(piece: &[u8], at: usize) -> Option<Word<'_>>
     if is_name(piece) {
         return Some(Word::Name { text: piece, at });
     }
-    match number(piece) {
-        Some(value) => Some(Word::Number { value, at }),
-        None => None,
-    }
+    number(piece).map(|value| Word::Number { value, at })
 }
 
-// The first word, and what is left after its space where it has one.
-pub(crate) fn next_word(tail: Tail<'_>) -> Option<(Word<'_>, Option<Tail<'_>>)>
-    requires { tail.at + length tail.bytes.now < 2 ^ 64 }
-    ensures short { IfSome result (λ x. Short x.0) }
-    ensures places { IfSome result (λ x. IfSome x.1 (λ t. t.at + length t.bytes.now ≡ tail.entry.at + length tail.entry.bytes.now)) }
-    ensures value { option_map seen_next result ≡ next_word tail.entry.at tail.entry.bytes.now }
-{
-    let n = length_before(tail.bytes, b' ');
-    let word = word_of(&tail.bytes[0..n], tail.at)?;
-    if n < tail.bytes.len() {
-        let rest = Tail {
-            bytes: &tail.bytes[n + 1..],
-            at: tail.at + n + 1,
-        };
-        Some((word, Some(rest)))
-    } else {
-        Some((word, None))
+impl<'a> Tail<'a> {
+    // The first word, and what is left after its space where it has one.
+    pub(crate) fn next_word(self) -> Option<(Word<'a>, Option<Tail<'a>>)>
+        ensures short { IfSome result (λ x. Short x.0) }
+        ensures value { option_map seen_next result ≡ next_word self.entry.at self.entry.bytes.now }
+    {
+        let n = length_before(self.bytes, b' ');
+        let word = word_of(&self.bytes[0..n], self.at)?;
+        if n < self.bytes.len() {
+            let rest = Tail {
+                bytes: &self.bytes[n + 1..],
+                at: self.at + n + 1,
+            };
+            Some((word, Some(rest)))
+        } else {
+            Some((word, None))
+        }
     }
 }

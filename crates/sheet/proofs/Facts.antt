@@ -1,11 +1,11 @@
 -- What the ghost fields of a sheet come to, in the words of its content.
-use Rattle.std.proofs.Common.{◌≡◌, ℕ, zero, suc, ◌-◌, ◌<◌, ◌≤◌, true, ◌&&◌, ltb, leb, List, [], ◌∷◌, length, get_or, arith}
-use Rattle.std.proofs.lemmas.List.{length-take-le}
-use Rattle.std.proofs.lemmas.Bool.{and_parts, leb-true, ltb-true, eqb-true}
+use Rattle.std.proofs.Common.{◌≡◌, ℕ, zero, suc, ◌-◌, ◌<◌, ◌≤◌, true, ◌&&◌, leb, List, [], ◌∷◌, length, get_or, arith}
+use Rattle.std.proofs.lemmas.Bool.{and_parts, leb-true}
 use Rattle.sheet.specs.declared.sheet.Sheet.{Sheet}
 use Rattle.grammar.specs.declared.task.TaskLine.{TaskLine}
 use Rattle.sheet.specs.Sheets.{content}
-use Rattle.grammar.specs.Tasks.{no_task, sound, sound_all, rising}
+use Rattle.grammar.specs.Tasks.{no_task, sound, sound_all}
+use Rattle.grammar.proofs.Rises.{each_above, each_within, later-above, ends_full}
 
 -- what the numbers of a sound task are
 abbrev pub Sound : TaskLine → Type 0
@@ -22,60 +22,20 @@ each_sound [] e i h = absurd (omega arith)
 each_sound (t ∷ ts) e zero h = sound-is t (and_parts (sound t) (sound_all ts) e).0
 each_sound (t ∷ ts) e (suc i) h = each_sound ts (and_parts (sound t) (sound_all ts) e).1 i (omega arith)
 
--- all of a rising list is above `last`, and none of it above 100
-rises_within : (last : ℕ) (vs : List ℕ) → rising last vs ≡ true → last ≤ 100
-rises_within last [] e = omega (arith, eqb-true last 100 e)
-rises_within last (v ∷ vs) e =
-    let p = and_parts (ltb last v) (rising v vs) e in
-    omega (arith, ltb-true last v p.0, rises_within v vs p.1)
-
-each_above : (last : ℕ) (vs : List ℕ) → rising last vs ≡ true → (i : ℕ) → i < length vs → last < get_or vs i 0
-each_above last [] e i h = absurd (omega arith)
-each_above last (v ∷ vs) e zero h = ltb-true last v (and_parts (ltb last v) (rising v vs) e).0
-each_above last (v ∷ vs) e (suc i) h =
-    let p = and_parts (ltb last v) (rising v vs) e in
-    omega (arith, ltb-true last v p.0, each_above v vs p.1 i (omega arith))
-
-each_within : (last : ℕ) (vs : List ℕ) → rising last vs ≡ true → (i : ℕ) → i < length vs → get_or vs i 0 ≤ 100
-each_within last [] e i h = absurd (omega arith)
-each_within last (v ∷ vs) e zero h = rises_within v vs (and_parts (ltb last v) (rising v vs) e).1
-each_within last (v ∷ vs) e (suc i) h = each_within v vs (and_parts (ltb last v) (rising v vs) e).1 i (omega arith)
-
-later-above : (last : ℕ) (vs : List ℕ) → rising last vs ≡ true → (i j : ℕ) → i < j → j < length vs → get_or vs i 0 < get_or vs j 0
-later-above last [] e i j l h = absurd (omega arith)
-later-above last (v ∷ vs) e i zero l h = absurd (omega arith)
-later-above last (v ∷ vs) e zero (suc j) l h = each_above v vs (and_parts (ltb last v) (rising v vs) e).1 j (omega arith)
-later-above last (v ∷ vs) e (suc i) (suc j) l h =
-    later-above v vs (and_parts (ltb last v) (rising v vs) e).1 i j (omega arith) (omega arith)
-
-ends_full : (last : ℕ) (vs : List ℕ) → rising last vs ≡ true → (i : ℕ) → length vs ≡ suc i → get_or vs i 0 ≡ 100
-ends_full last [] e i h = absurd (omega arith)
-ends_full last (v ∷ []) e zero h = eqb-true v 100 (and_parts (ltb last v) (rising v []) e).1
-ends_full last (v ∷ []) e (suc i) h = absurd (omega arith)
-ends_full last (v ∷ (w ∷ vs)) e zero h = absurd (omega arith)
-ends_full last (v ∷ (w ∷ vs)) e (suc i) h = ends_full v (w ∷ vs) (and_parts (ltb last v) (rising v (w ∷ vs)) e).1 i (omega arith)
-
 module _ (s : Sheet) where
-  -- as many tasks and levels as it counts
-  task_number : length (content s).tasks ≡ s.task_count
-  task_number = length-take-le s.task_count s.tasks (omega (arith, s.task_few, s.task_places))
-
-  level_number : length (content s).levels ≡ s.level_count
-  level_number = length-take-le s.level_count s.levels (omega (arith, s.level_few, s.level_places))
-
   -- at most 16 tasks, each with work within its period, and no period above 30,000
   pub tasks-few : length (content s).tasks ≤ 16
-  tasks-few = omega (arith, task_number, s.task_few)
+  tasks-few = s.task_few
 
   pub task_sound_at : (i : ℕ) → i < length (content s).tasks → Sound (get_or (content s).tasks i no_task)
   task_sound_at i h = each_sound (content s).tasks s.task_sound i h
 
   -- 1 to 8 levels from 1 to 100, each above the one before, the last 100
   pub levels-some : 0 < length (content s).levels
-  levels-some = omega (arith, level_number, s.level_some)
+  levels-some = s.level_some
 
   pub levels-few : length (content s).levels ≤ 8
-  levels-few = omega (arith, level_number, s.level_few)
+  levels-few = s.level_few
 
   pub level_in_range : (i : ℕ) → i < length (content s).levels → (1 ≤ get_or (content s).levels i 0) × (get_or (content s).levels i 0 ≤ 100)
   level_in_range i h =

@@ -1,3 +1,6 @@
+pub mod Contented
+pub mod Counts
+pub mod Embodied
 pub mod Facts
 pub mod Filled
 pub mod Onward

@@ -1,38 +1,33 @@
 -- One line more of a body.
-use Rattle.std.proofs.Common.{◌≡◌, ℕ, suc, ◌+◌, ◌-◌, ◌<◌, ◌≤◌, List, [], ◌∷◌, ◌++◌, length, drop, Ok, Err, Result, sym, ap, ◌∙◌, add_assoc, arith, length-drop}
+use Rattle.std.proofs.Common.{◌≡◌, ℕ, suc, ◌+◌, ◌-◌, ◌<◌, ◌≤◌, List, [], ◌∷◌, ◌++◌, length, drop, Ok, Err, Result, sym, ap, ◌∙◌, arith, length-drop}
 use Rattle.std.proofs.lemmas.List.{drop-drop}
 use Rattle.basis.specs.declared.fault.Fault.{Fault}
+use Rattle.basis.specs.declared.fault.Reason.{Reason}
+use Rattle.basis.specs.declared.fault.Reason.TheVariants.{Body}
+use Rattle.basis.specs.Faults.{fault_at}
 use Rattle.grammar.specs.Binds.{bind}
 use Rattle.grammar.specs.Bodies.{items_from}
-use Rattle.grammar.specs.Fields.{bad_line}
 use Rattle.grammar.specs.Texts.{Lines, first_of}
 
--- the first line of some, read
-module _ {T : Type 0} (f : Fault) (of : List ℕ → Result T Fault) (l : List ℕ) (ls rest : Lines) (cut : ls ≡ l ∷ rest) where
-  pub first_fails : (e : Fault) → Err e ≡ of l → Err e ≡ first_of f of ls
-  first_fails e r = ap (λ (x : Result T Fault). bind x (λ y. Ok (y, rest))) r ∙ ap (first_of f of) (sym cut)
+-- after i of `count` lines, the next stands on line `at`
+module _ {T : Type 0} (of : ℕ → List ℕ → Result T Fault) (at count i : ℕ) (got : List T) (ls : Lines) (whole : Result (List T × Lines) Fault)
+    (more : i < count) (so_far : items_from of at (count - i) got ls ≡ whole) where
+  abbrev next : Result (T × Lines) Fault → Result (List T × Lines) Fault
+  next r = bind r (λ x. items_from of (at + 1) (count - (i + 1)) (got ++ x.0 ∷ []) x.1)
 
-  pub first_goes : (x : T) → Ok x ≡ of l → Ok (x, rest) ≡ first_of f of ls
-  first_goes x r = ap (λ (x : Result T Fault). bind x (λ y. Ok (y, rest))) r ∙ ap (first_of f of) (sym cut)
-
-module _ {T : Type 0} (of : ℕ → List ℕ → Result T Fault) (at count i : ℕ) (got : List T) (ls : Lines) (whole : Result (List T × Lines) Fault) where
-  step : i < count → items_from of (at + i) (count - i) got ls
-      ≡ bind (first_of (bad_line (at + i)) (of (at + i)) ls) (λ x. items_from of (at + i + 1) (count - (i + 1)) (got ++ x.0 ∷ []) x.1)
-  step h = let n : count - i ≡ suc (count - (i + 1)) = omega arith in rw n
+  step : (why : Reason) → why ≡ Body → (r : Result (T × Lines) Fault) → r ≡ first_of (fault_at why at) (of at) ls → next r ≡ whole
+  step why is r h =
+      let n : count - i ≡ suc (count - (i + 1)) = omega arith in
+      ap next (h ∙ ap (λ (why : Reason). first_of (fault_at why at) (of at) ls) is) ∙ (sym (ap (λ k. items_from of at k got ls) n) ∙ so_far)
 
   -- a line at fault puts the body at fault
-  pub fails : i < count → (e : Fault) → Err e ≡ first_of (bad_line (at + i)) (of (at + i)) ls → items_from of (at + i) (count - i) got ls ≡ whole → Err e ≡ whole
-  fails h e first so_far =
-      ap (λ (r : Result (T × Lines) Fault). bind r (λ x. items_from of (at + i + 1) (count - (i + 1)) (got ++ x.0 ∷ []) x.1)) first
-      ∙ sym (step h) ∙ so_far
+  pub fails : (why : Reason) → why ≡ Body → (e : Fault) → Err e ≡ first_of (fault_at why at) (of at) ls → Err e ≡ whole
+  fails why is e first = step why is (Err e) first
 
   -- what a line reads to comes next
-  pub goes : i < count → (x : T) (rest : Lines) → Ok (x, rest) ≡ first_of (bad_line (at + i)) (of (at + i)) ls → items_from of (at + i) (count - i) got ls ≡ whole
-      → items_from of (at + (i + 1)) (count - (i + 1)) (got ++ x ∷ []) rest ≡ whole
-  goes h x rest first so_far =
-      rw (← add_assoc at i 1)
-      (ap (λ (r : Result (T × Lines) Fault). bind r (λ x. items_from of (at + i + 1) (count - (i + 1)) (got ++ x.0 ∷ []) x.1)) first
-      ∙ sym (step h) ∙ so_far)
+  pub goes : (why : Reason) → why ≡ Body → (x : T) (rest : Lines) → Ok (x, rest) ≡ first_of (fault_at why at) (of at) ls
+      → items_from of (at + 1) (count - (i + 1)) (got ++ x ∷ []) rest ≡ whole
+  goes why is x rest first = step why is (Ok (x, rest)) first
 
 -- there is room for each line
 pub room : {T : Type 0} (free now : List T) (count i : ℕ) → count ≤ length free → i < count → now ≡ drop i free → now ≡ [] → ⊥

@@ -1,3 +1,4 @@
+pub mod Counts
+pub mod Parts
 pub mod Sheets
 pub mod Views
-pub mod Wholes

@@ -4,9 +4,11 @@
 mod bodies;
 mod contents;
 mod items;
+mod part;
 mod passes;
 pub mod script;
 pub mod sheet;
+mod told;
 
 pub use grammar::{Name, Power, TaskLine, name, task};
 pub use script::{Letters, Script, ScriptText, script_line};

@@ -48,8 +48,8 @@ pub(crate) fn check_tasks(tasks: &[TaskLine], first: usize) -> Result<(), Fault>
     requires { first + length tasks.now < 2 ^ 64 }
     ensures { result ≡ apart_from first [] tasks.now }
 {
-    for i in 0..tasks.len() {
-        if is_barred(tasks[i], &tasks[0..i]) {
+    for (i, task) in tasks.iter().enumerate() {
+        if is_barred(*task, &tasks[..i]) {
             return Err(Reason::Task.at(first + i));
         }
     }

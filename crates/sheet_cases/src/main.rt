@@ -2,21 +2,16 @@
 #![tactic(auto)]
 
 use basis::Fault;
-use console::{put_refusal, read_up_to};
-use sheet::{Script, Sheet};
+use console::read_file;
+use sheet::{Letters, Power, Script, Sheet, TaskLine};
 use std::io::Write;
 use std::{env, fs};
-
-// A machine file has no more bytes than this; what follows is not read.
-const LONGEST_FILE: usize = 32_768;
 
 // A script of more lines is shown by their number alone.
 const MOST_SHOWN: usize = 40;
 
 fn show_fault(rt: &HostRuntime, fault: Fault) -> anyhow::Result<()> {
-    let mut line = Vec::new(rt.alloc());
-    put_refusal(&mut line, rt.alloc(), fault)?;
-    rt.stdout().write_all(line.as_slice())?;
+    println!(rt; "{fault}")?;
     Ok(())
 }
 
@@ -25,16 +20,16 @@ fn show_sheet(rt: &HostRuntime, sheet: &Sheet) -> anyhow::Result<()> {
     for level in sheet.levels() {
         print!(rt; " {level}")?;
     }
-    let power = sheet.power();
-    let static_mw = power.static_mw;
-    let steady_mw = power.steady_mw;
-    let switching_mw = power.switching_mw;
+    let Power {
+        static_mw,
+        steady_mw,
+        switching_mw,
+    } = sheet.power();
     println!(rt; "\npower {static_mw} {steady_mw} {switching_mw}")?;
     for task in sheet.tasks() {
-        let work = task.work;
-        let period = task.period;
+        let TaskLine { name, work, period } = task;
         print!(rt; "task ")?;
-        rt.stdout().write_all(task.name.text())?;
+        rt.stdout().write_all(name.text())?;
         println!(rt; " {work} {period}")?;
     }
     let line = sheet.first_task();
@@ -42,31 +37,32 @@ fn show_sheet(rt: &HostRuntime, sheet: &Sheet) -> anyhow::Result<()> {
     Ok(())
 }
 
-fn show_script(rt: &HostRuntime, line: usize, mut script: Script<'_>) -> anyhow::Result<()> {
-    let mut pairs = Vec::new(rt.alloc());
-    for _ in 0..LONGEST_FILE {
-        let Some(letters) = script.next() else {
-            break;
-        };
-        pairs.extend_from_slice(&[b' ', letters.primary, letters.spare])?;
+fn show_letters(rt: &HostRuntime, all: &[Letters]) -> anyhow::Result<()> {
+    for letters in all {
+        rt.stdout()
+            .write_all(&[b' ', letters.primary, letters.spare])?;
     }
-    let count = pairs.len() / 3;
+    Ok(())
+}
+
+fn show_script(rt: &HostRuntime, line: usize, script: Script<'_>) -> anyhow::Result<()> {
+    let all: Vec<Letters> = script.collect(rt.alloc())?;
     print!(rt; "script from line {line}:")?;
+    let count = all.len();
     if count > MOST_SHOWN {
         print!(rt; " {count} lines")?;
     } else {
-        rt.stdout().write_all(pairs.as_slice())?;
+        show_letters(rt, all.as_slice())?;
     }
     println!(rt; "")?;
     Ok(())
 }
 
 fn show(rt: &HostRuntime, name: &str) -> anyhow::Result<()> {
-    let mut memory = [0u8; LONGEST_FILE];
-    let len = read_up_to(&mut fs::open(rt, name)?, &mut memory)?;
+    let file = read_file(&mut fs::open(rt, name)?, rt.alloc())?;
     println!(rt; "== {name}")?;
     let mut sheet = Sheet::blank();
-    match sheet.read_file(&memory[0..len]) {
+    match sheet.read_file(file.as_slice()) {
         Ok(rest) => {
             show_sheet(rt, &sheet)?;
             match Script::read(rest) {

@@ -30,7 +30,7 @@ fn show(rt: &HostRuntime, name: &str) -> anyhow::Result<()> {
     let text = fs::read(rt, name)?;
     let page = spare_page(rt.alloc(), text.as_slice())?;
     println!(rt; "== {name}")?;
-    rt.stdout().write_all(page.text.as_slice())?;
+    rt.stdout().write_all(page.text())?;
     Ok(())
 }
 

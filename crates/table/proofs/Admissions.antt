@@ -1,8 +1,8 @@
 -- What a sheet and a base level come to in a table.
-use Rattle.std.proofs.Common.{◌≡◌, ℕ, zero, suc, ◌+◌, ◌-◌, ◌*◌, ◌/◌, ◌<◌, ◌≤◌, Bool, true, false, eqb, List, [], ◌∷◌, length, get_or, take, Some, sym, ap, ◌∙◌, subst, ⊎_elim, mul-le-mul_right, mul_comm, mul-le-mul_left, arith}
-use native.Mathlib.Nat.{sub-zero, lt-div-mul-add}
+use Rattle.std.proofs.Common.{◌≡◌, ℕ, zero, suc, ◌+◌, ◌-◌, ◌*◌, ◌/◌, ◌<◌, ◌≤◌, Bool, true, false, eqb, List, [], ◌∷◌, length, get_or, Some, sym, ap, ◌∙◌, subst, ⊎_elim, mul-le-mul_right, mul_comm, mul-le-mul_left, arith}
+use native.Mathlib.Nat.{lt-div-mul-add}
 use Rattle.std.proofs.lemmas.Nat.{le-div}
-use Rattle.std.proofs.lemmas.List.{length-map, get_or-map}
+use Rattle.std.proofs.lemmas.List.{length-map, get_or-map, get_or_default}
 use Rattle.std.proofs.lemmas.Bool.{cases_Bool, cond-true, cond-false, eq-eqb, or_left, or_right, eqb-true, or_cases}
 use Rattle.sheet.specs.declared.sheet.Sheet.{Sheet}
 use Rattle.grammar.specs.declared.task.TaskLine.{TaskLine}
@@ -12,8 +12,8 @@ use Rattle.sheet.proofs.Facts.{task_sound_at, levels-few, level_in_range, levels
 use Rattle.theory.specs.declared.Load.{Load}
 use Rattle.theory.specs.Loads.{Loads, size, work, period, load, no_load, Cycle}
 use Rattle.theory.proofs.Sums.{sum-le}
+use Rattle.table.specs.declared.tasks.TaskSet.{TaskSet}
 use Rattle.table.specs.Cycles.{Sound}
-use Rattle.table.specs.Placings.{Placed}
 use Rattle.table.specs.Allowances.{allowance, slowed, allowed, base_of, has, Levels, Lowest}
 use Rattle.table.specs.Admissions.{load_of, loads_of}
 use Rattle.table.proofs.Bases.{load-allowed}
@@ -32,10 +32,6 @@ sheet_sound s i h =
 pub sheet_levels : (s : Sheet) → Levels (content s).levels
 sheet_levels s =
     record { few = levels-few s; some = λ i h. (level_in_range s i h).0; most = λ i h. (level_in_range s i h).1; rise = levels-rise s }
-
--- the part of the places that tasks use
-pub placed_loads : (ts : List TaskLine) (places : Loads) → Placed load_of no_load 16 ts places → take (length ts - 0) places ≡ loads_of ts
-placed_loads ts places p = ap (λ n. take n places) (sub-zero (length ts)) ∙ p.front
 
 -- the base level that is found is the lowest that fits
 module _ (fits : ℕ → Bool) where
@@ -83,7 +79,7 @@ module _ (fits : ℕ → Bool) where
   pub base-is : (vs : List ℕ) (s : ℕ) → Levels vs → base_of vs fits ≡ Some s → Lowest vs fits s
   base-is vs s levels e = record { known = base-known vs s e; enough = base-enough vs s e; lowest = base-lowest vs s levels.rise e }
 
--- one of the levels is in their range
+-- one of the levels stands at a place among them
 pub has-place : (s : ℕ) (vs : List ℕ) → has s vs ≡ true → (i : ℕ) × (i < length vs) × (get_or vs i 0 ≡ s)
 has-place s [] e = absurd (let z : ◌≡◌ {A = ℕ} 0 1 = (cc) in omega arith)
 has-place s (v ∷ vs) e =
@@ -91,11 +87,6 @@ has-place s (v ∷ vs) e =
     (λ (q : eqb s v ≡ true). (0, omega arith, sym (eqb-true s v q)))
     (λ (q : has s vs ≡ true). let r = has-place s vs q in (suc r.0, omega (arith, r.1), r.2))
     (or_cases (eqb s v) (has s vs) e)
-
-pub has_range : (s : ℕ) (vs : List ℕ) → Levels vs → has s vs ≡ true → (0 < s) × (s ≤ 100)
-has_range s vs levels e =
-    let r = has-place s vs e in
-    (omega (arith, levels.some r.0 r.1, r.2), omega (arith, levels.most r.0 r.1, r.2))
 
 -- no allowance is smaller than its work
 pub allowance-enough : (s c : ℕ) → 0 < s → s ≤ 100 → c ≤ allowance s c
@@ -137,3 +128,11 @@ module _ (s : ℕ) (T : Loads) where
       subst (λ (x : ℕ). load T H ≤ x) (sym (load-allowed s T H))
       (sum-le (size T) (λ i. work T i * (H / period T i)) (λ i. allowance s (work T i) * (H / period T i))
       (λ i h. mul-le-mul_right (H / period T i) (allowance-enough s (work T i) pos most)))
+
+-- no work of a task set is above 30,000, wherever its list stands
+pub work_short : (set : TaskSet) {T : Loads} (i : ℕ) (d : Load) → T ≡ set.loads → i < length T → (get_or T i d).work ≤ 30000
+unfolding work period
+work_short set {T} i d e l =
+    let k : i < length set.loads = omega (arith, l, ap length e) in
+    let p = set.sound i k in
+    rw (e, get_or_default set.loads i d no_load k) (omega (arith, p.1, p.2))

@@ -9,9 +9,6 @@ pub record Same (A B x y : ℕ) : Type 0 where
   pub down : (c d : ℕ) → d ∣ c * A → d ∣ c * B → (d ∣ c * x) × (d ∣ c * y)
   pub up : (d : ℕ) → d ∣ x → d ∣ y → (d ∣ A) × (d ∣ B)
 
-pub same_start : (a b : ℕ) → Same a b a b
-same_start a b = record { down = λ c d p q. (p, q); up = λ d p q. (p, q) }
-
 scaled-mod : (c d x y : ℕ) → d ∣ c * x → d ∣ c * y → d ∣ c * (x % y)
 scaled-mod c d x y p q =
     let e : c * y * (x / y) + c * (x % y) ≡ c * x = rw (mul_assoc c y (x / y), ← mul-add c (y * (x / y)) (x % y), div-add-mod x y) in

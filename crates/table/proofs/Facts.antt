@@ -1,11 +1,8 @@
 -- What the ghost fields of a workload and of a table come to, in the words of the theory.
-use Rattle.std.proofs.Common.{◌≡◌, ℕ, ◌-◌, ◌*◌, ◌/◌, ◌<◌, ◌≤◌, length, get_or, replicate, sym, refl, ◌∙◌, subst, ap₂, mul-le-mul_left, mul-one, arith}
+use Rattle.std.proofs.Common.{◌≡◌, ℕ, ◌-◌, ◌*◌, ◌/◌, ◌<◌, ◌≤◌, length, get_or, sym, ◌∙◌, subst, ap₂, mul-le-mul_left, mul-one, arith}
 use native.Mathlib.Nat.{le_of_dvd, dvd_of_mod-eq-zero}
 use Rattle.std.proofs.lemmas.Nat.{le-div}
-use Rattle.std.proofs.lemmas.List.{length-take-le, ext_get_or}
-use Rattle.sheet.specs.declared.sheet.Sheet.{Sheet}
-use Rattle.grammar.specs.Tasks.{no_task}
-use Rattle.sheet.proofs.Facts as sheet
+use Rattle.std.proofs.lemmas.List.{ext_get_or}
 use Rattle.theory.specs.declared.Load.{Load}
 use Rattle.theory.specs.Loads.{Loads, Cycle, load, size, work, period, no_load}
 use Rattle.theory.proofs.Sums.{sum_at}
@@ -14,6 +11,7 @@ use Rattle.table.specs.declared.table.Table.{Table}
 use Rattle.table.specs.Workloads.{loads_in, turn_of}
 use Rattle.table.specs.Allowances.{allowance, allowed}
 use Rattle.table.specs.Tables.{admitted}
+use Rattle.grammar.proofs.Rises.{rising_some, each_above, each_within, later-above, ends_full}
 use Rattle.table.proofs.Admissions.{has-place, allowance-enough, allowance_covers, size-allowed, work-allowed, period-allowed}
 
 pub cycle_of_lem : (w : Workload) → Cycle (loads_in w) (turn_of w)
@@ -23,10 +21,10 @@ pub fits_of : (w : Workload) → load (loads_in w) (turn_of w) ≤ turn_of w
 fits_of w = w.fits
 
 pub short_of : (w : Workload) → turn_of w ≤ 30000
-short_of w = w.short
+short_of w = w.cycle.short
 
 pub few_of : (w : Workload) → size (loads_in w) ≤ 16
-few_of w = omega (arith, w.few, w.places, length-take-le w.count w.loads (omega (arith, w.few, w.places)))
+few_of w = w.few
 
 -- no period and no work is longer than the cycle
 pub period-within : (w : Workload) (i : ℕ) → i < size (loads_in w) → period (loads_in w) i ≤ turn_of w
@@ -50,51 +48,26 @@ same_load : (x y : Load) → x.work ≡ y.work → x.period ≡ y.period → x �
 same_load x y e f = ap₂ (λ a b. record { work = a; period = b }) e f
 
 module _ (t : Table) where
-  -- the levels of a table are those of a sheet with no task
-  levels_as_sheet : Sheet
-  levels_as_sheet =
-      record {
-        levels = t.levels;
-        level_count = t.level_count;
-        power = t.power;
-        tasks = replicate 16 no_task;
-        task_count = 0;
-        first_task = 0;
-        level_places = t.level_places;
-        level_some = t.level_some;
-        level_few = t.level_few;
-        level_rest = t.level_rest;
-        level_order = t.level_order;
-        task_places = refl;
-        task_few = omega arith;
-        task_rest = refl;
-        task_sound = refl;
-        task_line = omega arith;
-      }
-
+  -- 1 to 8 levels from 1 to 100, each above the one before, the last 100
   pub levels-some : 0 < length (admitted t).levels
-  unfolding levels_as_sheet
-  levels-some = sheet.levels-some levels_as_sheet
+  levels-some = rising_some (admitted t).levels t.level_order
 
   pub levels-few : length (admitted t).levels ≤ 8
-  unfolding levels_as_sheet
-  levels-few = sheet.levels-few levels_as_sheet
+  levels-few = t.level_few
 
   pub level_in_range : (i : ℕ) → i < length (admitted t).levels → (1 ≤ get_or (admitted t).levels i 0) × (get_or (admitted t).levels i 0 ≤ 100)
-  unfolding levels_as_sheet
-  level_in_range i h = sheet.level_in_range levels_as_sheet i h
+  level_in_range i h =
+      (each_above 0 (admitted t).levels t.level_order i h, each_within 0 (admitted t).levels t.level_order i h)
 
   pub levels-rise : (i j : ℕ) → i < j → j < length (admitted t).levels → get_or (admitted t).levels i 0 < get_or (admitted t).levels j 0
-  unfolding levels_as_sheet
-  levels-rise i j l h = sheet.levels-rise levels_as_sheet i j l h
+  levels-rise i j l h = later-above 0 (admitted t).levels t.level_order i j l h
 
   pub last_level_full : get_or (admitted t).levels (length (admitted t).levels - 1) 0 ≡ 100
-  unfolding levels_as_sheet
-  last_level_full = sheet.last_level_full levels_as_sheet
+  last_level_full = ends_full 0 (admitted t).levels t.level_order (length (admitted t).levels - 1) (omega (arith, levels-some))
 
   -- the base level is one of the levels
   pub base_in_range : (1 ≤ (admitted t).base) × ((admitted t).base ≤ 100)
-  base_in_range = (t.base_some, t.base_most)
+  base_in_range = (t.base.some, t.base.most)
 
   pub base-place : (i : ℕ) × (i < length (admitted t).levels) × (get_or (admitted t).levels i 0 ≡ (admitted t).base)
   base-place = has-place (admitted t).base (admitted t).levels t.base_known
@@ -116,6 +89,9 @@ module _ (t : Table) where
   cycle_short = short_of t.works
 
   -- and one number of tasks
+  pub names_number : length (admitted t).names ≡ size (admitted t).works
+  names_number = t.one_number
+
   pub works-few : size (admitted t).works ≤ 16
   works-few = few_of t.works
 
@@ -146,9 +122,9 @@ module _ (t : Table) where
   -- no allowance is smaller than its work, and at the base level it is enough
   pub allowance_more : (i : ℕ) → i < size (admitted t).works → work (admitted t).works i ≤ work (admitted t).allowances i
   allowance_more i h =
-      omega (arith, at_base i h, allowance-enough (admitted t).base (work (admitted t).works i) t.base_some t.base_most)
+      omega (arith, at_base i h, allowance-enough (admitted t).base (work (admitted t).works i) t.base.some t.base.most)
 
   pub allowance_serves : (i : ℕ) → i < size (admitted t).works → 100 * work (admitted t).works i ≤ (admitted t).base * work (admitted t).allowances i
   allowance_serves i h =
       subst (λ (x : ℕ). 100 * work (admitted t).works i ≤ (admitted t).base * x) (sym (at_base i h))
-      (allowance_covers (admitted t).base (work (admitted t).works i) t.base_some)
+      (allowance_covers (admitted t).base (work (admitted t).works i) t.base.some)

@@ -44,24 +44,24 @@ least-cycle T H pos l =
     record { ticks = l.some; some_period = pos; divides = λ i h. mod-eq-zero_of_dvd (period T i) (l.each i h) }
 
 -- what the test of all periods says of the first n
-pub divides-front : (T : Loads) (n m : ℕ) → ((i : ℕ) → i < n → i < size T → period T i ∣ m) → divide_all (take n T) m ≡ true
+pub divides_front : (T : Loads) (n m : ℕ) → ((i : ℕ) → i < n → i < size T → period T i ∣ m) → divide_all (take n T) m ≡ true
 unfolding divide_all period
-divides-front [] zero m h = refl
-divides-front [] (suc n) m h = refl
-divides-front (l ∷ T) zero m h = refl
-divides-front (l ∷ T) (suc n) m h =
+divides_front [] zero m h = refl
+divides_front [] (suc n) m h = refl
+divides_front (l ∷ T) zero m h = refl
+divides_front (l ∷ T) (suc n) m h =
     and_from (eqb (m % l.period) 0) (divide_all (take n T) m)
     (eq-eqb (m % l.period) 0 (mod-eq-zero_of_dvd l.period (h 0 (omega arith) (omega arith))))
-    (divides-front T n m (λ i a b. h (suc i) (omega arith) (omega arith)))
+    (divides_front T n m (λ i a b. h (suc i) (omega arith) (omega arith)))
 
-pub front-divides : (T : Loads) (n m : ℕ) → divide_all (take n T) m ≡ true → (i : ℕ) → i < n → i < size T → period T i ∣ m
+pub front_divides : (T : Loads) (n m : ℕ) → divide_all (take n T) m ≡ true → (i : ℕ) → i < n → i < size T → period T i ∣ m
 unfolding divide_all period
-front-divides [] n m e i a b = absurd (omega arith)
-front-divides (l ∷ T) zero m e i a b = absurd (omega arith)
-front-divides (l ∷ T) (suc n) m e zero a b =
+front_divides [] n m e i a b = absurd (omega arith)
+front_divides (l ∷ T) zero m e i a b = absurd (omega arith)
+front_divides (l ∷ T) (suc n) m e zero a b =
     dvd_of_mod-eq-zero l.period (eqb-true (m % l.period) 0 (and_parts (eqb (m % l.period) 0) (divide_all (take n T) m) e).0)
-front-divides (l ∷ T) (suc n) m e (suc i) a b =
-    front-divides T n m (and_parts (eqb (m % l.period) 0) (divide_all (take n T) m) e).1 i (omega arith) (omega arith)
+front_divides (l ∷ T) (suc n) m e (suc i) a b =
+    front_divides T n m (and_parts (eqb (m % l.period) 0) (divide_all (take n T) m) e).1 i (omega arith) (omega arith)
 
 module _ (T : Loads) (n H : ℕ) (few : n ≤ size T) (l : LeastOf T n H) where
   -- the first n places have no smaller common multiple
@@ -69,7 +69,7 @@ module _ (T : Loads) (n H : ℕ) (few : n ≤ size T) (l : LeastOf T n H) where
   not_sooner m pos h =
       ⊎_elim
       (λ (e : divide_all (take n T) m ≡ true).
-      absurd (omega (arith, le_of_dvd pos (l.least m (λ i x. front-divides T n m e i x (omega arith))))))
+      absurd (omega (arith, le_of_dvd pos (l.least m (λ i x. front_divides T n m e i x (omega arith))))))
       (λ (e : divide_all (take n T) m ≡ false). e)
       (cases_Bool (divide_all (take n T) m))
 
@@ -77,7 +77,7 @@ module _ (T : Loads) (n H : ℕ) (few : n ≤ size T) (l : LeastOf T n H) where
   unfolding cycle_of
   cycle-some h =
       first_some (divide_all (take n T)) 1 30000 H l.some (omega arith)
-      (divides-front T n H (λ i x _. l.each i x))
+      (divides_front T n H (λ i x _. l.each i x))
       (λ j a b. not_sooner j a b)
 
   pub cycle_none : 30000 < H → cycle_of (take n T) ≡ None
@@ -89,7 +89,7 @@ module _ (T : Loads) (n H : ℕ) (few : n ≤ size T) (l : LeastOf T n H) where
   unfolding cycle_of
   short_before h j x =
       first_found (divide_all (take (suc j) T)) 1 30000 H l.some (omega arith)
-      (divides-front T (suc j) H (λ i a _. l.each i (omega arith)))
+      (divides_front T (suc j) H (λ i a _. l.each i (omega arith)))
 
 -- more places have no cycle where fewer have none
 pub cycle_none_all : (T : Loads) (n H : ℕ) → n ≤ size T → LeastOf T n H → 30000 < H → cycle_of T ≡ None
@@ -104,14 +104,14 @@ cycle_none_all T n H few l h = first_none (divide_all T) 1 30000 none
         ⊎_elim
         (λ (e : divide_all T m ≡ true).
         let f : divide_all (take (size T) T) m ≡ true = rw whole e in
-        absurd (omega (arith, le_of_dvd a (l.least m (λ i x. front-divides T (size T) m f i (omega arith) (omega arith))))))
+        absurd (omega (arith, le_of_dvd a (l.least m (λ i x. front_divides T (size T) m f i (omega arith) (omega arith))))))
         (λ (e : divide_all T m ≡ false). e)
         (cases_Bool (divide_all T m))
 
 -- of the first N places, n is the first that makes the cycle too long
-pub long-first : (T : Loads) (n N H L : ℕ) → n < N → N ≤ size T → LeastOf T n H → H ≤ 30000 → LeastOf T (suc n) L → 30000 < L → long_at T N ≡ Some n
+pub long_first : (T : Loads) (n N H L : ℕ) → n < N → N ≤ size T → LeastOf T n H → H ≤ 30000 → LeastOf T (suc n) L → 30000 < L → long_at T N ≡ Some n
 unfolding long_at
-long-first T n N H L lt few l short m long =
+long_first T n N H L lt few l short m long =
     first_some (λ i. absent (cycle_of (take (suc i) T))) 0 N n (omega arith) (omega arith)
     (ap absent (cycle_none T (suc n) L (omega arith) m long))
     (λ j a b. short_before T n H (omega arith) l short j b)

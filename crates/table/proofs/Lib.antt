@@ -1,7 +1,7 @@
 pub mod Commons
 pub mod Searches
 pub mod Leasts
-pub mod Placings
+pub mod Levels
 pub mod Bases
 pub mod Admissions
 pub mod Fittings

@@ -1,8 +1,8 @@
 -- Which sheets are admitted, as which tables, and with which refusal the others are turned away.
 use Rattle.std.specs.Prelude.{ℕ, ◌+◌, List, [], ◌∷◌, map, length, Some, None, Ok, Err, Option, Result}
 use Rattle.basis.specs.declared.fault.Fault.{Fault}
-use Rattle.basis.specs.declared.fault.Layer.TheVariants.{Plan}
-use Rattle.basis.specs.Faults.{fault_of}
+use Rattle.basis.specs.declared.fault.Reason.TheVariants.{LongCycle, Overfull}
+use Rattle.basis.specs.Faults.{fault_at, fault_of}
 use Rattle.grammar.specs.declared.name.Name.{Name}
 use Rattle.grammar.specs.declared.task.TaskLine.{TaskLine}
 use Rattle.grammar.specs.declared.task.Power.{Power}
@@ -63,12 +63,12 @@ table_of c H s =
 
 -- with a base level: admitted; where no level fits, refusal 7
 abbrev pub with_base : Content → ℕ → Option ℕ → Result Admitted Fault
-with_base c H None = Err (fault_of 7 Plan 0)
+with_base c H None = Err (fault_of Overfull)
 with_base c H (Some s) = Ok (table_of c H s)
 
 -- with a cycle: the base level decides; where there is none, refusal 6, on the line of the first task with which there is none
 abbrev pub with_cycle : Content → Option ℕ → Result Admitted Fault
-with_cycle c None = Err (fault_of 6 Plan (line_at c.first (long_at (loads_of c.tasks) (length c.tasks))))
+with_cycle c None = Err (fault_at LongCycle (line_at c.first (long_at (loads_of c.tasks) (length c.tasks))))
 with_cycle c (Some H) = with_base c H (base_of c.levels (fits_at (loads_of c.tasks) H))
 
 -- the admission of a sheet's content

@@ -1,6 +1,5 @@
 pub mod Workloads
 pub mod Common
-pub mod Placings
 pub mod Searches
 pub mod Cycles
 pub mod Allowances

@@ -1,15 +1,14 @@
 //! The base level: the lowest level at which a task set fits its cycle.
-ghost use Rattle.std.specs.Prelude.{◌≡◌, ◌<◌, ◌≤◌, [], ◌∷◌, length, nat_le, nat_lt};
+ghost use Rattle.std.specs.Prelude.{◌≡◌, [], ◌∷◌, map, nat_le, nat_lt, option_map};
 ghost use Rattle.theory.specs.Loads.{load};
-ghost use Rattle.table.specs.Cycles.{Sound};
-ghost use Rattle.table.specs.Placings.{Placed};
 ghost use Rattle.table.specs.Allowances.{allowed, fits_at, base_of, Levels};
-ghost use Rattle.table.specs.Rungs.{rung_at, no_rung};
+ghost use Rattle.table.specs.Rungs.{rung_at};
 ghost use Rattle.std.proofs.Common.{rules};
 
-use crate::places::allowance_at;
-use basis::{Entry, pick};
-use theory::Load;
+use crate::cycle::Turn;
+use crate::level::Level;
+use crate::tasks::TaskSet;
+use basis::{Blank, Entry, Places, pick};
 
 // A level in percent, with the allowances at it that fall due in a cycle.
 #[derive(Clone, Copy)]
@@ -18,21 +17,21 @@ pub(crate) struct Rung {
     demand: u64,
 }
 
-// The ticks that a cycle has room for.
-#[derive(Clone, Copy)]
-pub(crate) struct Room {
-    cycle: u64,
+// What stands in a place that no level uses.
+impl Blank for Rung {
+    ghost use Rattle.table.specs.Rungs.{no_rung};
+
+    ghost BLANK = { no_rung };
+
+    const BLANK: Rung = Rung {
+        level: 0,
+        demand: 0,
+    };
 }
 
-// What stands in a place that no level uses.
-const NO_RUNG: Rung = Rung {
-    level: 0,
-    demand: 0,
-};
-
 // A level is eligible where its allowances fit the cycle, and the lower of two comes first.
-impl Entry<Room> for Rung {
-    ghost eligible = { λ room x. nat_le x.demand room.cycle };
+impl Entry<Turn> for Rung {
+    ghost eligible = { λ turn x. nat_le x.demand turn.ticks };
 
     ghost key = { λ x. x.level ∷ [] };
 
@@ -46,8 +45,8 @@ impl Entry<Room> for Rung {
 
     ghost keyed = { Prim.search rules };
 
-    fn is_eligible(&self, room: &Room) -> bool {
-        self.demand <= room.cycle
+    fn is_eligible(&self, turn: &Turn) -> bool {
+        self.demand <= u64::from(turn.ticks)
     }
 
     fn comes_before(&self, other: &Rung) -> bool {
@@ -55,54 +54,40 @@ impl Entry<Room> for Rung {
     }
 }
 
-// The allowances at a level that fall due in a cycle.
-fn demand_at(loads: &[Load], level: u32, cycle: u64) -> u64
-    requires few { length loads.now ≤ 16 }
-    requires sound { Sound loads.now }
-    requires speed { (0 < level) × (level ≤ 100) }
-    requires short { cycle ≤ 30000 }
-    ensures { result ≡ load (allowed level loads.now) cycle }
-{
-    let mut sum = 0;
-    for i in 0..loads.len() {
-        let load = loads[i];
-        let allowance = allowance_at(level, load.work);
-        sum += allowance as u64 * (cycle / load.period as u64);
+impl TaskSet {
+    // The allowances at a level that fall due in a cycle.
+    fn demand(&self, level: Level, turn: Turn) -> u64
+        ensures { result ≡ load (allowed level.percent self.now.loads) turn.ticks }
+    {
+        let mut sum = 0;
+        for load in self.loads.entries() {
+            let allowance = level.allowance(load.work);
+            sum += u64::from(allowance) * u64::from(turn.ticks / load.period);
+        }
+        sum
     }
-    sum
-}
 
-// Each level with its demand.
-fn rungs_of(levels: &[u8], loads: &[Load], cycle: u64) -> [Rung; 8]
-    requires levels { Levels levels.now }
-    requires few { length loads.now ≤ 16 }
-    requires sound { Sound loads.now }
-    requires short { cycle ≤ 30000 }
-    ensures { Placed (rung_at loads.now cycle) no_rung 8 levels.now result }
-{
-    let mut places = [NO_RUNG; 8];
-    for i in 0..levels.len() {
-        let level = levels[i];
-        places[i] = Rung {
-            level,
-            demand: demand_at(loads, level as u32, cycle),
-        };
+    // Each level with its demand.
+    fn rungs(&self, levels: &[u8], turn: Turn) -> Places<Rung, 8>
+        requires { Levels levels.now }
+        ensures { result ≡ map (rung_at self.now.loads turn.ticks) levels.now }
+    {
+        Places::mapped(
+            levels,
+            |percent| Rung {
+                level: percent,
+                demand: self.demand(Level::new(percent), turn),
+            },
+        )
     }
-    places
-}
 
-// The lowest level that fits, if one does.
-pub(crate) fn base_of(levels: &[u8], loads: &[Load], cycle: u64) -> Option<u8>
-    requires levels { Levels levels.now }
-    requires few { length loads.now ≤ 16 }
-    requires sound { Sound loads.now }
-    requires short { cycle ≤ 30000 }
-    ensures { result ≡ base_of levels.now (fits_at loads.now cycle) }
-{
-    let rungs = rungs_of(levels, loads, cycle);
-    let room = Room { cycle };
-    match pick(&rungs[0..levels.len()], &room) {
-        None => None,
-        Some(i) => Some(levels[i]),
+    // The lowest level that fits, if one does.
+    pub(crate) fn base(&self, levels: &[u8], turn: Turn) -> Option<Level>
+        requires { Levels levels.now }
+        ensures { option_map (λ level. level.percent) result ≡ base_of levels.now (fits_at self.now.loads turn.ticks) }
+    {
+        let rungs = self.rungs(levels, turn);
+        let place = pick(rungs.entries(), &turn)?;
+        Some(Level::new(levels[place]))
     }
 }

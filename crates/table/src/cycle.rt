@@ -1,27 +1,35 @@
 //! The cycle of a task set.
 ghost use Rattle.std.specs.Prelude.{◌≡◌, ◌<◌, ◌≤◌, length, Some, None, MatchResult};
-ghost use Rattle.table.specs.Cycles.{Sound, cycle_of, long_at, Least};
+ghost use Rattle.table.specs.Cycles.{cycle_of, long_at, Least};
 
 use crate::common::lcm;
-use theory::Load;
+use crate::tasks::TaskSet;
 
 // The most ticks that a cycle may have.
 const LONGEST: u32 = 30000;
 
-// The least common multiple of the periods, or the first place at which it passes the most ticks of a cycle.
-pub(crate) fn cycle_of(loads: &[Load]) -> Result<u32, usize>
-    requires { Sound loads.now }
-    ensures { MatchResult result
-        (λ h. (cycle_of loads.now ≡ Some h) × Least loads.now h × (h ≤ 30000))
-        (λ i. (cycle_of loads.now ≡ None) × (long_at loads.now (length loads.now) ≡ Some i) × (i < length loads.now)) }
-{
-    let mut cycle = 1;
-    for i in 0..loads.len() {
-        let longer = lcm(cycle, loads[i].period);
-        if longer > LONGEST {
-            return Err(i);
+// The ticks of a cycle, of which it has at most 30,000.
+#[derive(Clone, Copy)]
+pub(crate) struct Turn {
+    pub(crate) ticks: u32,
+    ghost short: { ticks ≤ 30000 },
+}
+
+impl TaskSet {
+    // The least common multiple of the periods, or the first place at which it passes the most ticks of a cycle.
+    pub(crate) fn cycle(&self) -> Result<Turn, usize>
+        ensures { MatchResult result
+            (λ turn. (cycle_of self.now.loads ≡ Some turn.ticks) × Least self.now.loads turn.ticks)
+            (λ i. (cycle_of self.now.loads ≡ None) × (long_at self.now.loads (length self.now.loads) ≡ Some i) × (i < length self.now.loads)) }
+    {
+        let mut ticks = 1;
+        for (place, load) in self.loads.entries().iter().enumerate() {
+            let longer = lcm(ticks, load.period);
+            if longer > LONGEST {
+                return Err(place);
+            }
+            ticks = longer;
         }
-        cycle = longer;
+        Ok(Turn { ticks })
     }
-    Ok(cycle)
 }

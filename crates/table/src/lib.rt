@@ -4,8 +4,9 @@
 pub(crate) mod base;
 pub(crate) mod common;
 pub(crate) mod cycle;
-pub(crate) mod places;
+pub(crate) mod level;
 pub mod table;
+pub(crate) mod tasks;
 pub mod workload;
 
 pub use table::Table;

@@ -1,7 +1,7 @@
 //! Examples.
 use crate::Table;
 use crate::common::lcm;
-use crate::places::allowance_at;
+use crate::level::Level;
 use sheet::Sheet;
 use std::test::Fail;
 
@@ -13,8 +13,8 @@ fn multiples(rt: HostRuntime) {
 
 #[test]
 fn allowances_round_up(rt: HostRuntime) {
-    assert_eq!(rt; allowance_at(30, 1), 4);
-    assert_eq!(rt; allowance_at(50, 3), 6);
+    assert_eq!(rt; Level::new(30).allowance(1), 4);
+    assert_eq!(rt; Level::new(50).allowance(3), 6);
 }
 
 #[test]

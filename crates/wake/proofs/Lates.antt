@@ -1,13 +1,17 @@
 -- One turn of the loop that lays the plan that works as late as it can.
-use Rattle.std.proofs.Common.{◌≡◌, ℕ, zero, suc, ◌+◌, ◌-◌, ◌%◌, ◌<◌, ◌≤◌, false, cond, eqb, ltb, List, [], length, get_or, set, refl, ap, ◌∙◌, ⊎_elim, arith, get_or-set_other, get_or-set_same}
+use Rattle.std.proofs.Common.{◌≡◌, ℕ, zero, suc, ◌+◌, ◌-◌, ◌*◌, ◌/◌, ◌%◌, ◌<◌, ◌≤◌, Bool, true, false, cond, eqb, ltb, List, [], length, get_or, set, refl, ap, ◌∙◌, ⊎_elim, mul-le-mul_left, mul-one, arith, get_or-set_other, get_or-set_same}
 use native.Mathlib.Nat.{sub-zero}
+use Rattle.std.proofs.lemmas.Nat.{le-div}
 use Rattle.std.proofs.lemmas.Bool.{cases_eq}
 use Rattle.std.proofs.lemmas.Bool.Decides.{nat_tests}
 use Rattle.theory.specs.Sums.{sum, bit}
 use Rattle.theory.specs.Loads.{Loads, size, work, period, load}
 use Rattle.theory.specs.Lates.{due_at, backlog, edl}
 use Rattle.theory.proofs.Lates.{load_more}
-use Rattle.theory.proofs.Sums.{sum_up, sum_more}
+use Rattle.theory.proofs.Sums.{sum_up, sum_more, sum-le}
+use Rattle.table.specs.Workloads.{loads_in, turn_of}
+use Rattle.table.specs.declared.workload.Workload.{Workload}
+use Rattle.table.proofs.Facts.{fits_of, short_of, period-within}
 
 -- a table with no task rests in each tick
 none_due : (t : ℕ) → due_at [] t ≡ 0
@@ -88,12 +92,27 @@ unfolding due_at
 share_bound T tick i n h e =
     omega (arith, share_more T tick i n e, sum_up (i + 1) (size T) (λ k. cond (eqb (tick % period T k) 0) (work T k) 0) (omega arith))
 
--- a turn that finds work, and one that finds none
-module _ (T : Loads) (H t B D : ℕ) (some : 0 < t) (l : t ≤ H) (b : B ≡ backlog T H (H - t)) (d : D ≡ due_at T (t - 1 + 1)) where
-  pub turn_awake : 0 < B + D → (B + D - 1 ≡ backlog T H (H - (t - 1))) × (1 ≡ bit (edl T H (t - 1)))
-  unfolding bit
-  turn_awake h = (omega (arith, left T H t some l), (let w = wakes T H t some l in grind (arith, nat_tests)))
+-- no more work is due at a tick than in a cycle
+pub due_small : (w : Workload) (tick : ℕ) → due_at (loads_in w) tick ≤ 30000
+unfolding due_at load
+due_small w tick =
+    let T = loads_in w in
+    let H = turn_of w in
+    let each : (i : ℕ) → i < size T → cond (eqb (tick % period T i) 0) (work T i) 0 ≤ work T i * (H / period T i) =
+    (λ i l.
+    let once : 1 ≤ H / period T i = le-div 1 H (period T i) (w.periods i l) (omega (arith, period-within w i l)) in
+    let more : work T i ≤ work T i * (H / period T i) = omega (arith, mul-le-mul_left (work T i) once, mul-one (work T i)) in
+    cond_le (eqb (tick % period T i) 0) (work T i) (work T i * (H / period T i)) more) in
+    omega (arith, sum-le (size T) (λ i. cond (eqb (tick % period T i) 0) (work T i) 0) (λ i. work T i * (H / period T i)) each, fits_of w, short_of w)
+  where
+    cond_le : (b : Bool) (c d : ℕ) → c ≤ d → cond b c 0 ≤ d
+    cond_le true c d l = l
+    cond_le false c d l = omega arith
 
-  pub turn_rests : B + D ≤ 0 → (B + D ≡ backlog T H (H - (t - 1))) × (0 ≡ bit (edl T H (t - 1)))
+-- a turn: what it leaves, and whether it finds work
+module _ (T : Loads) (H t B D : ℕ) (some : 0 < t) (l : t ≤ H) (b : B ≡ backlog T H (H - t)) (d : D ≡ due_at T (t - 1 + 1)) where
+  pub turn : (B + D - 1 ≡ backlog T H (H - (t - 1))) × (bit (ltb 0 (B + D)) ≡ bit (edl T H (t - 1)))
   unfolding bit
-  turn_rests h = (omega (arith, left T H t some l), (let w = wakes T H t some l in grind (arith, nat_tests)))
+  turn =
+      let e : B + D ≡ backlog T H (H - t) + due_at T (t - 1 + 1) = omega arith in
+      (omega (arith, left T H t some l), rw (e, wakes T H t some l) refl)

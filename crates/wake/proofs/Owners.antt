@@ -1,6 +1,5 @@
 -- The pick of a row of jobs is the earliest job with slots left.
-use Rattle.std.proofs.Common.{◌≡◌, ℕ, ◌<◌, ◌≤◌, Bool, true, ltb, List, [], ◌∷◌, length, get_or, take, Some, None, Option, sym, refl, ap, ◌∙◌, subst, ⊎_elim, arith}
-use Rattle.std.proofs.lemmas.List.{length-take-le, get_or-take}
+use Rattle.std.proofs.Common.{◌≡◌, ℕ, ◌<◌, ◌≤◌, Bool, true, ltb, List, [], ◌∷◌, length, get_or, Some, None, Option, sym, refl, ap, ◌∙◌, subst, ⊎_elim, arith}
 use Rattle.basis.specs.Picks.{Picked}
 use Rattle.theory.specs.Loads.{Loads, size}
 use Rattle.theory.specs.Slots.{job_at, owner}
@@ -46,32 +45,22 @@ module _ (row : List Job) (eligible : ℕ → Bool) (key : ℕ → Key) (own : (
   picked_earliest r h =
       chosen_one eligible key own (length row) r _ (chosen r h) (earliest_chosen eligible key own (length row))
 
--- the same of the jobs in the first n of the machine's places
-module _ (T : Loads) (jobs : List Job) (t : ℕ) (few : size T ≤ length jobs)
+-- the same of the machine's jobs
+module _ (T : Loads) (jobs : List Job) (t : ℕ) (one_number : length jobs ≡ size T)
     (dues : (i : ℕ) → i < size T → (get_or jobs i no_job).due ≡ (job_at T t i).due)
     (releases : (i : ℕ) → i < size T → (get_or jobs i no_job).release ≡ (job_at T t i).release)
     (own : (i : ℕ) → i < size T → (get_or jobs i no_job).place ≡ i) where
-  keyed : (k : ℕ) → k < size T → key_of (get_or (take (size T) jobs) k no_job) ≡ job_at T t k
+  keyed : (k : ℕ) → k < size T → key_of (get_or jobs k no_job) ≡ job_at T t k
   unfolding job_at
-  keyed k l =
-      rw (get_or-take (size T) jobs k no_job l)
-      (λ i. record { due = dues k l i; release = releases k l i; place = own k l i })
+  keyed k l = λ i. record { due = dues k l i; release = releases k l i; place = own k l i }
 
   places_own : (k : ℕ) → (job_at T t k).place ≡ k
   unfolding job_at
   places_own k = refl
 
-  earliest_picked : (r : Option ℕ) → Picked waits first key_list (take (size T) jobs) (length (take (size T) jobs)) r →
-      r ≡ earliest (λ i. ltb 0 (get_or jobs i no_job).left) (job_at T t) (size T)
-  earliest_picked r h =
-      let e : length (take (size T) jobs) ≡ size T = length-take-le (size T) jobs few in
-      rw (← e)
-      (picked_earliest (take (size T) jobs) (λ i. ltb 0 (get_or jobs i no_job).left) (job_at T t) places_own
-      (λ k l. ap (λ (j : Job). ltb 0 j.left) (get_or-take (size T) jobs k no_job (omega arith)))
-      (λ k l. keyed k (omega arith))
-      r h)
-
-  pub owner_picked : (n : ℕ) (awake : Bool) (r : Option ℕ) → n ≡ size T → awake ≡ true →
-      Picked waits first key_list (take n jobs) (length (take n jobs)) r → r ≡ owner T awake (λ i. (get_or jobs i no_job).left) t
+  pub owner_picked : (awake : Bool) (r : Option ℕ) {row : List Job} → awake ≡ true → row ≡ jobs → Picked waits first key_list row (length row) r →
+      r ≡ owner T awake (λ i. (get_or jobs i no_job).left) t
   unfolding owner
-  owner_picked n awake r m w h = rw w (earliest_picked r (rw m at h))
+  owner_picked awake r w e h =
+      rw (w, ← one_number)
+      (picked_earliest jobs (λ i. ltb 0 (get_or jobs i no_job).left) (job_at T t) places_own (λ k l. refl) (λ k l. keyed k (omega arith)) r (rw e at h))

@@ -1,10 +1,12 @@
 -- One tick of the slot machine, place by place.
-use Rattle.std.proofs.Common.{◌≡◌, ℕ, suc, ◌+◌, ◌-◌, ◌*◌, ◌/◌, ◌%◌, ◌<◌, ◌≤◌, Bool, true, false, cond, eqb, ltb, List, length, get_or, set, Some, None, Option, sym, refl, ap, ◌∙◌, ⊎_elim, suc-mul, mul_comm, one-mul, zero-mul, add-one, arith, get_or-set_other, get_or-set_same}
+use Rattle.std.proofs.Common.{◌≡◌, ℕ, suc, ◌+◌, ◌-◌, ◌*◌, ◌/◌, ◌%◌, ◌<◌, ◌≤◌, Bool, true, false, cond, eqb, ltb, List, length, get_or, map, Some, None, Option, sym, refl, ap, ◌∙◌, ⊎_elim, suc-mul, mul_comm, one-mul, zero-mul, add-one, arith}
 use native.Mathlib.Nat.{zero-div, div-add-mod, mul-mod_left, sub-zero, zero-sub}
-use Rattle.std.proofs.lemmas.List.{get_or_past}
+use Rattle.std.specs.Option.{option_eq}
+use Rattle.std.proofs.lemmas.List.{get_or_past, get_or_default, get_or-map, length-map}
 use Rattle.std.proofs.lemmas.Bool.{cases_eq, cases_lt, lt-ltb, le-ltb, eq-eqb, ne_eqb, ltb-true}
 use Rattle.std.proofs.lemmas.Bool.Decides.{nat_tests}
 use Rattle.theory.specs.Sums.{bit}
+use Rattle.theory.specs.declared.Load.{Load}
 use Rattle.theory.specs.Loads.{Loads, size, work, period, no_load}
 use Rattle.theory.specs.Orders.{Chosen}
 use Rattle.theory.proofs.Orders.{earliest_chosen}
@@ -15,10 +17,18 @@ use Rattle.table.specs.declared.workload.Workload.{Workload}
 use Rattle.table.proofs.Facts.{short_of, period-within}
 use Rattle.wake.specs.Jobs.{no_job, released, first_job, renewed, spent}
 use Rattle.wake.specs.declared.job.Job.{Job}
+use Rattle.wake.specs.declared.machine.SlotMachine.{SlotMachine}
+use Rattle.wake.specs.Machines.{owner_in}
 
 -- no period is longer than the longest cycle
 pub period_short : (w : Workload) (i : ℕ) → i < size (loads_in w) → period (loads_in w) i ≤ 30000
 period_short w i l = omega (arith, period-within w i l, short_of w)
+
+pub period_short_in : (w : Workload) {T : Loads} (i : ℕ) (d : Load) → T ≡ loads_in w → i < length T → (get_or T i d).period ≤ 30000
+unfolding period
+period_short_in w {T} i d e l =
+    let n : i < size (loads_in w) = omega (arith, ap length e) in
+    rw (e, get_or_default (loads_in w) i d no_load n) (period_short w i n)
 
 -- a place past the last task has no work
 work_past : (T : Loads) (k : ℕ) → size T ≤ k → work T k ≡ 0
@@ -51,9 +61,6 @@ module _ (T : Loads) (k : ℕ) where
 
   pub first-place : k < size T → (first_job T k).place ≡ k
   first-place l = ap (λ j. j.place) (here l)
-
-  pub first_rest : size T ≤ k → first_job T k ≡ no_job
-  first_rest = past
 
 -- a job is due as a tick begins exactly where its period divides the tick
 module _ (p t : ℕ) (pos : 0 < p) where
@@ -154,20 +161,21 @@ owner_waits T t true left p e =
     chosen_waits T t left _ p (earliest_chosen (λ i. ltb 0 (left i)) (job_at T t) (λ k. refl) (size T)) e
 owner_waits T t false left p e = absurd (let z : ◌≡◌ {A = ℕ} 0 1 = cc in omega arith)
 
--- one slot is taken from the owner's job, and no other job alters
-pub charged-set : (js : List Job) (p : ℕ) (w : ℕ) → p < length js → w ≡ (get_or js p no_job).left - 1 → (k : ℕ) →
-    get_or (set js p (record { due = (get_or js p no_job).due; release = (get_or js p no_job).release; place = (get_or js p no_job).place; left = w })) k no_job
-    ≡ spent (Some p) k (get_or js k no_job)
-unfolding is bit
-charged-set js p w l e k =
-    ⊎_elim
-    (λ (q : k ≡ p). rw (q, get_or-set_same js p _ no_job l, eq-eqb p p refl, e))
-    (λ (q : k ≡ p → ⊥). rw (get_or-set_other js p k _ no_job q, ne_eqb k p q, sub-zero))
-    (cases_eq k p)
+-- whether a place is the owner, as the code asks it
+is_asked : (o : Option ℕ) (p : ℕ) → option_eq eqb o (Some p) ≡ is p o
+unfolding is
+is_asked None p = refl
+is_asked (Some o) p = grind (arith, nat_tests)
 
-pub charged_none : (js : List Job) (k : ℕ) → get_or js k no_job ≡ spent None k (get_or js k no_job)
-unfolding is bit
-charged_none js k = rw sub-zero
+-- one slot is taken from the owner's job, and no other job alters
+pub spent_owner : (o : Option ℕ) (j : Job) → true ≡ option_eq eqb o (Some j.place) →
+    record { due = j.due; release = j.release; place = j.place; left = j.left - 1 } ≡ spent o j.place j
+unfolding bit
+spent_owner o j e = rw (← is_asked o j.place, ← e) refl
+
+pub spent_other : (o : Option ℕ) (j : Job) → false ≡ option_eq eqb o (Some j.place) → j ≡ spent o j.place j
+unfolding bit
+spent_other o j e = rw (← is_asked o j.place, ← e, sub-zero) refl
 
 -- a place past the last task stays blank
 pub rest_after : (T : Loads) (t : ℕ) (awake : Bool) (o : Option ℕ) (k : ℕ) (j : Job) → size T ≤ k → j ≡ no_job → renewed T (t + 1) k (spent o k j) ≡ no_job
@@ -175,10 +183,32 @@ rest_after T t awake o k j l e =
     past_last T t awake o k j l
     ∙ (ap (λ (x : Job). spent o k x) e ∙ ap (λ (n : ℕ). record { due = 0; release = 0; place = 0; left = n }) (zero-sub (bit (is k o))))
 
--- a charge and a renewal, one after the other
-pub composed : (T U : Loads) (tick k : ℕ) (o p : Option ℕ) (j j' j'' : Job) →
-    j'' ≡ renewed U tick k j' → U ≡ T → j' ≡ spent p k j → p ≡ o → j'' ≡ renewed T tick k (spent o k j)
-composed T U tick k o p j j' j'' e f g h =
-    e
-    ∙ (ap (λ (X : Loads). renewed X tick k j') f
-    ∙ (ap (λ (x : Job). renewed T tick k x) g ∙ ap (λ (x : Option ℕ). renewed T tick k (spent x k j)) h))
+-- the jobs after a tick, place by place
+pub jobs_after : (T : Loads) (t : ℕ) (awake : Bool) (o : Option ℕ) (before after : List Job) → length before ≡ size T →
+    ((i : ℕ) → i < size T → (get_or before i no_job).place ≡ i) →
+    after ≡ map (λ (j : Job). renewed T (t + 1) j.place (spent o j.place j)) before → (k : ℕ) →
+    get_or after k no_job ≡ renewed T (t + 1) k (spent o k (get_or before k no_job))
+jobs_after T t awake o before after e own f k =
+    ⊎_elim
+    (λ (l : k < size T).
+    ap (λ js. get_or js k no_job) f
+    ∙ (get_or-map (λ (j : Job). renewed T (t + 1) j.place (spent o j.place j)) before k no_job no_job (omega arith)
+    ∙ ap (λ p. renewed T (t + 1) p (spent o p (get_or before k no_job))) (own k l)))
+    (λ (l : size T ≤ k).
+    get_or_past after k no_job (omega (arith, ap length f, length-map before (λ (j : Job). renewed T (t + 1) j.place (spent o j.place j))))
+    ∙ sym (rest_after T t awake o k (get_or before k no_job) l (get_or_past before k no_job (omega arith))))
+    (cases_lt k (size T))
+
+-- each job is a task's, and the owner's job has slots left
+pub job_of_task : (m : SlotMachine) {js : List Job} (i : ℕ) (d : Job) → js ≡ m.jobs → i < length js → (get_or js i d).place < size (loads_in m.workload)
+job_of_task m {js} i d e l =
+    let n : i < size (loads_in m.workload) = omega (arith, ap length e, m.one_number) in
+    rw (e, get_or_default m.jobs i d no_job (omega (arith, ap length e)), m.own i n) n
+
+pub owner_has_slots : (m : SlotMachine) (awake : Bool) {js : List Job} {o : Option ℕ} (i : ℕ) (d : Job) → js ≡ m.jobs → o ≡ owner_in m awake → i < length js →
+    o ≡ Some (get_or js i d).place → 0 < (get_or js i d).left
+owner_has_slots m awake {js} {o} i d e f l g =
+    let n : i < size (loads_in m.workload) = omega (arith, ap length e, m.one_number) in
+    let here : get_or js i d ≡ get_or m.jobs i no_job = ap (λ x. get_or x i d) e ∙ get_or_default m.jobs i d no_job (omega (arith, ap length e)) in
+    let w = owner_waits (loads_in m.workload) m.tick awake (λ k. (get_or m.jobs k no_job).left) i (sym f ∙ (g ∙ ap (λ p. Some p) (ap (λ (j : Job). j.place) here ∙ m.own i n))) in
+    rw here w.1

@@ -26,12 +26,4 @@ impl WakePlan for Always {
     fn is_awake(&self, _tick: u32) -> bool {
         true
     }
-
-    fn rest_ticks(&self, a: u32, b: u32) -> Option<u32> {
-        if a <= b && b <= self.workload.cycle() {
-            Some(0)
-        } else {
-            None
-        }
-    }
 }

@@ -1,10 +1,13 @@
-//! The order between jobs.
-ghost use Rattle.std.specs.Prelude.{◌≡◌, ℕ, ◌+◌, ◌^◌, ◌<◌, [], ◌∷◌, nat_lt};
+//! Jobs: what becomes of one in a tick, and the order between them.
+ghost use Rattle.std.specs.Prelude.{◌≡◌, ◌+◌, ◌^◌, ◌<◌, ◌≤◌, [], ◌∷◌, Some, nat_lt};
+ghost use Rattle.theory.specs.Loads.{size};
 ghost use Rattle.theory.specs.Orders.{earlier};
-ghost use Rattle.wake.specs.Jobs.{key_of, released};
+ghost use Rattle.table.specs.Workloads.{loads_in};
+ghost use Rattle.wake.specs.Jobs.{key_of, released, renewed, spent};
 ghost use Rattle.std.proofs.Common.{rules};
 
-use basis::Entry;
+use basis::{Blank, Entry};
+use table::Workload;
 use theory::Load;
 
 // The job that a task has in a tick: when it is due, when it was released, the place of its task, and the slots left of it.
@@ -14,6 +17,20 @@ pub struct Job {
     pub release: u32,
     pub place: u32,
     pub left: u32,
+}
+
+// What stands in a place that no task uses.
+impl Blank for Job {
+    ghost use Rattle.wake.specs.Jobs.{no_job};
+
+    ghost BLANK = { no_job };
+
+    const BLANK: Job = Job {
+        due: 0,
+        release: 0,
+        place: 0,
+        left: 0,
+    };
 }
 
 impl Job {
@@ -28,6 +45,40 @@ impl Job {
             place: place as u32,
             left: load.work,
         }
+    }
+
+    // The job after a tick: one slot less, if its place is the tick's owner.
+    fn spent(mut self, owner: Option<usize>) -> Job
+        requires { owner ≡ Some self.place → 0 < self.left }
+        ensures { result ≡ spent owner self.place self }
+    {
+        if owner == Some(self.place as usize) {
+            self.left -= 1;
+        }
+        self
+    }
+
+    // The job as a tick begins: if it is due then, it makes room for its successor, with fresh slots.
+    fn renewed(self, workload: &Workload, tick: u32) -> Job
+        requires task { self.place < size (loads_in workload.now) }
+        requires early { tick ≤ 100000000 }
+        ensures { result ≡ renewed (loads_in workload.now) tick self.place self }
+    {
+        if self.due != tick {
+            return self;
+        }
+        let place = self.place as usize;
+        Job::released(workload.loads()[place], tick, place)
+    }
+
+    // What becomes of the job as a tick passes and tick `next` begins.
+    pub(crate) fn passed(self, owner: Option<usize>, workload: &Workload, next: u32) -> Job
+        requires task { self.place < size (loads_in workload.now) }
+        requires waits { owner ≡ Some self.place → 0 < self.left }
+        requires early { next ≤ 100000000 }
+        ensures { result ≡ renewed (loads_in workload.now) next self.place (spent owner self.place self) }
+    {
+        self.spent(owner).renewed(workload, next)
     }
 }
 
@@ -56,9 +107,6 @@ impl Entry<Waiting> for Job {
 
     // Due sooner; on equal due ticks the smaller place.
     fn comes_before(&self, other: &Job) -> bool {
-        self.due < other.due
-            || (self.due == other.due
-                && (self.place < other.place
-                    || (self.place == other.place && self.release < other.release)))
+        (self.due, self.place, self.release) < (other.due, other.place, other.release)
     }
 }

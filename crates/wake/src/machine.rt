@@ -7,6 +7,7 @@ ghost use Rattle.wake.specs.Jobs.{no_job};
 pub mod calls;
 
 use crate::job::Job;
+use basis::Places;
 use table::Workload;
 
 // The slot machine of one board: each task's current job, with the slots left of it, at the start of a tick.
@@ -14,10 +15,9 @@ use table::Workload;
 #[derive(Clone, Copy)]
 pub struct SlotMachine {
     workload: Workload,
-    jobs: [Job; 16],
+    jobs: Places<Job, 16>,
     tick: u32,
-    ghost places: { length jobs ≡ 16 },
-    ghost rest: { (i : ℕ) → size (loads_in workload) ≤ i → slice_index_or jobs i no_job ≡ no_job },
+    ghost one_number: { length jobs ≡ size (loads_in workload) },
     ghost early: { tick ≤ 100000000 },
     ghost dues: { (i : ℕ) → i < size (loads_in workload) → (slice_index_or jobs i no_job).due ≡ (job_at (loads_in workload) tick i).due },
     ghost releases: { (i : ℕ) → i < size (loads_in workload) → (slice_index_or jobs i no_job).release ≡ (job_at (loads_in workload) tick i).release },

@@ -25,5 +25,15 @@ pub trait WakePlan {
 
     // In how many ticks from `a` up to but excluding `b` it rests; absent when a > b or b passes the cycle.
     fn rest_ticks(&self, a: u32, b: u32) -> Option<u32>
-        ensures { result ≡ rest_ticks (plan self.now).cycle (plan self.now).awake a b };
+        ensures { result ≡ rest_ticks (plan self.now).cycle (plan self.now).awake a b }
+    {
+        if a > b || b > self.cycle() {
+            return None;
+        }
+        let mut rests = 0;
+        for tick in a..b {
+            rests += u32::from(!self.is_awake(tick));
+        }
+        Some(rests)
+    }
 }

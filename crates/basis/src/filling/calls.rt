@@ -32,12 +32,7 @@ impl<'a, T: Copy> Filling<'a, T> {
     pub fn get(&self, place: usize) -> Option<T>
         ensures { MatchOption result (length (entries_of self.now) ≤ place) (λ x. (place < length (entries_of self.now)) × (x ≡ slice_index_or (entries_of self.now) place x)) }
     {
-        let entries = self.entries();
-        if place < entries.len() {
-            Some(entries[place])
-        } else {
-            None
-        }
+        self.entries().get(place).copied()
     }
 
     // The entries, as a part of the memory.

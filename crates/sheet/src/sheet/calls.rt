@@ -4,7 +4,8 @@ ghost use Rattle.sheet.specs.Sheets.{content};
 ghost use Rattle.grammar.specs.Sheets.{blank_content};
 
 use crate::sheet::Sheet;
-use grammar::task::{NO_POWER, NO_TASK};
+use basis::Places;
+use grammar::task::NO_POWER;
 use grammar::{Power, TaskLine};
 
 impl Sheet {
@@ -13,11 +14,9 @@ impl Sheet {
         ensures { content result ≡ blank_content }
     {
         Sheet {
-            levels: [100, 0, 0, 0, 0, 0, 0, 0],
-            level_count: 1,
+            levels: Places::of(&[100]),
             power: NO_POWER,
-            tasks: [NO_TASK; 16],
-            task_count: 0,
+            tasks: Places::new(),
             first_task: 0,
         }
     }
@@ -26,7 +25,7 @@ impl Sheet {
     pub fn levels(&self) -> &[u8]
         ensures { result.now ≡ (content self.now).levels }
     {
-        &self.levels[0..self.level_count]
+        self.levels.entries()
     }
 
     // The power figures of one board.
@@ -40,7 +39,7 @@ impl Sheet {
     pub fn tasks(&self) -> &[TaskLine]
         ensures { result.now ≡ (content self.now).tasks }
     {
-        &self.tasks[0..self.task_count]
+        self.tasks.entries()
     }
 
     // The line of the file on which the first task stands, or 0 in the blank sheet.

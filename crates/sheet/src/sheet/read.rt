@@ -1,72 +1,42 @@
 //! The reader of machine files.
-ghost use Rattle.std.specs.Prelude.{◌≡◌, true, IfOk};
-ghost use Rattle.sheet.specs.Views.{told_by, taken_as, unread_in, sheet_in};
-ghost use Rattle.sheet.specs.Wholes.{LevelsWhole, TasksWhole};
-ghost use Rattle.grammar.specs.Files.{content_of, read_of, answer_of, filled_by, file_of, unread_of, content_after};
+ghost use Rattle.std.specs.Prelude.{◌≡◌, OnErr};
+ghost use Rattle.grammar.specs.Files.{read_of, answer_of, filled_by, file_of, unread_of, content_after};
 ghost use Rattle.grammar.specs.Refusals.{ReadAs};
+ghost use Rattle.grammar.specs.Sheets.{blank_content};
+ghost use Rattle.sheet.specs.Parts.{left_with};
 ghost use Rattle.sheet.specs.Sheets.{content};
-ghost use Rattle.grammar.specs.Tasks.{rising, sound_all};
+ghost use Rattle.sheet.specs.Views.{unread_in};
 
-use crate::bodies::{Bodies, Levels, Tasks, read_bodies};
-use crate::contents::read_contents;
+use crate::bodies::read_bodies;
+use crate::contents::calls::read_contents;
+use crate::part::Part;
 use crate::passes::{check_levels, check_tasks};
 use crate::script::ScriptText;
 use crate::sheet::Sheet;
+use crate::told::Told;
 use basis::Fault;
 use lines::check_bytes;
 
-// The sheet with these bodies, once every pass has let them through.
-fn sheet_of(bodies: Bodies) -> Sheet
-    requires levels { LevelsWhole bodies.levels }
-    requires tasks { TasksWhole bodies.tasks }
-    requires rising { rising 0 (told_by bodies).levels.items ≡ true }
-    requires sound { sound_all (told_by bodies).tasks.items ≡ true }
-    ensures { content result ≡ content_of (told_by bodies) }
+// Fills the sheet in once every pass has let the text through, and gives back what stands after its bodies. A refusal leaves the sheet
+// blank.
+fn read_passes<'a>(text: &'a [u8], sheet: &mut Sheet) -> Result<Part<'a>, Fault>
+    ensures value { left_with result (content sheet.new) ≡ file_of text.now }
+    ensures blank { OnErr result (content sheet.new ≡ blank_content) }
 {
-    let levels = bodies.levels.places;
-    let tasks = bodies.tasks.places;
-    Sheet {
-        levels,
-        level_count: bodies.levels.count,
-        power: bodies.power,
-        tasks,
-        task_count: bodies.tasks.count,
-        first_task: bodies.tasks.heading + 1,
-    }
-}
-
-// What the bodies of a text say once every pass has let them through, or the first fault; and what stands after them.
-fn read_passes(text: &[u8]) -> Result<(Bodies, &[u8]), Fault>
-    ensures levels { IfOk result (λ x. LevelsWhole x.0.levels) }
-    ensures tasks { IfOk result (λ x. TasksWhole x.0.tasks) }
-    ensures rising { IfOk result (λ x. rising 0 (told_by x.0).levels.items ≡ true) }
-    ensures sound { IfOk result (λ x. sound_all (told_by x.0).tasks.items ≡ true) }
-    ensures value { taken_as (λ b. content_of (told_by b)) result ≡ file_of text.now }
-{
+    *sheet = Sheet::blank();
     check_bytes(text)?;
     let contents = read_contents(text)?;
-    let (bodies, script) = read_bodies(contents)?;
-    let Levels {
-        places,
-        count,
-        heading,
-    } = bodies.levels;
-    check_levels(&places[0..count], heading)?;
-    let Tasks {
-        places,
-        count,
-        heading,
-    } = bodies.tasks;
-    check_tasks(&places[0..count], heading + 1)?;
-    Ok((bodies, script))
-}
-
-// The sheet that a text means, or the first fault, pass by pass.
-fn read_sheet(text: &[u8]) -> Result<Sheet, Fault>
-    ensures { sheet_in result ≡ read_of text.now }
-{
-    let (bodies, _script) = read_passes(text)?;
-    Ok(sheet_of(bodies))
+    let mut told = Told::nothing();
+    let script = read_bodies(contents, &mut told)?;
+    check_levels(told.levels.entries(), told.levels_heading)?;
+    check_tasks(told.tasks.entries(), told.tasks_heading + 1)?;
+    *sheet = Sheet {
+        levels: told.levels,
+        power: told.power,
+        tasks: told.tasks,
+        first_task: told.tasks_heading + 1,
+    };
+    Ok(script)
 }
 
 impl Sheet {
@@ -75,8 +45,7 @@ impl Sheet {
         ensures answer { result ≡ answer_of (read_of text.now) }
         ensures filled { content self.new ≡ filled_by (read_of text.now) }
     {
-        *self = Sheet::blank();
-        *self = read_sheet(text)?;
+        read_passes(text, self)?;
         Ok(())
     }
 
@@ -85,14 +54,13 @@ impl Sheet {
         ensures answer { unread_in result ≡ unread_of (file_of text.now) }
         ensures filled { content self.new ≡ content_after (file_of text.now) }
     {
-        let blank = Sheet::blank();
-        *self = blank;
-        let (bodies, script) = read_passes(text)?;
-        *self = sheet_of(bodies);
-        Ok(ScriptText {
-            text: script,
-            first: 10 + (self.level_count + self.task_count) as u8,
-        })
+        let script = read_passes(text, self)?;
+        let items = self.levels().len() + self.tasks().len();
+        let part = Part {
+            text: script.text,
+            line: 10 + items,
+        };
+        Ok(ScriptText { part })
     }
 
     // Fills the sheet in from a machine file, and answers what stands after its bodies. A text that is none leaves the sheet blank, and the

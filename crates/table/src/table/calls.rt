@@ -1,26 +1,22 @@
 //! The calls of a table.
-ghost use Rattle.std.specs.Prelude.{◌≡◌, ◌≤◌, IfOk, Ok, Err, MatchResult, OnErr, OnOk};
+ghost use Rattle.std.specs.Prelude.{◌≡◌, IfOk, Ok, Err, MatchResult, OnErr, OnOk};
 ghost use Rattle.sheet.specs.Sheets.{content};
 ghost use Rattle.grammar.specs.Sheets.{blank_content};
-ghost use Rattle.theory.specs.Loads.{no_load};
 ghost use Rattle.table.specs.Workloads.{loads_in, turn_of};
-ghost use Rattle.table.specs.Placings.{Placed};
 ghost use Rattle.table.specs.Cycles.{Least};
 ghost use Rattle.table.specs.Allowances.{fits_at, Lowest};
-ghost use Rattle.table.specs.Admissions.{LeastCycle, LowestBase, load_of, loads_of, table_of, admit_of, blank_table};
+ghost use Rattle.table.specs.Admissions.{LeastCycle, LowestBase, loads_of, table_of, admit_of, blank_table};
 ghost use Rattle.table.specs.Tables.{admitted};
 
-use crate::base::base_of;
-use crate::cycle::cycle_of;
-use crate::places::{allowances_of, levels_of, names_of, works_of};
+use crate::cycle::Turn;
+use crate::level::Level;
 use crate::table::Table;
+use crate::tasks::TaskSet;
 use crate::workload::Workload;
-use basis::{Fault, Layer};
-use grammar::name::NO_NAME;
+use basis::{Fault, Places, Reason};
 use grammar::task::NO_POWER;
 use grammar::{Name, Power};
 use sheet::Sheet;
-use theory::Load;
 
 impl Table {
     // No task, in a cycle of one tick, at full speed and with zero power: what a program holds before it has admitted a sheet.
@@ -30,12 +26,11 @@ impl Table {
         ensures origin { admit_of blank_content ≡ Ok (admitted result) }
     {
         Table {
-            names: [NO_NAME; 16],
+            names: Places::new(),
             works: Workload::blank(),
             allowances: Workload::blank(),
-            levels: [100, 0, 0, 0, 0, 0, 0, 0],
-            level_count: 1,
-            base: 100,
+            levels: Places::of(&[100]),
+            base: Level::new(100),
             power: NO_POWER,
         }
     }
@@ -57,43 +52,26 @@ impl Table {
         ensures cycle { IfOk result (λ t. LeastCycle (admitted t)) }
         ensures base { IfOk result (λ t. LowestBase (admitted t)) }
     {
-        let tasks = sheet.tasks();
-        let works = works_of(tasks);
-        let loads = &works[0..tasks.len()];
-        match cycle_of(loads) {
-            Err(place) => Err(Fault {
-                number: 6,
-                layer: Layer::Plan,
-                line: sheet.first_task() + place,
-            }),
-            Ok(cycle) => match base_of(sheet.levels(), loads, cycle as u64) {
-                None => Err(Fault {
-                    number: 7,
-                    layer: Layer::Plan,
-                    line: 0,
-                }),
-                Some(base) => Ok(Table::fitted(sheet, works, cycle, base)),
-            },
-        }
+        let tasks = TaskSet::of(sheet);
+        let cycle = tasks
+            .cycle()
+            .map_err(|place| Reason::LongCycle.at(sheet.first_task() + place))?;
+        let base = tasks.base(sheet.levels(), cycle).ok_or(Reason::Overfull)?;
+        Ok(Table::fitted(sheet, &tasks, cycle, base))
     }
 
     // The table of a sheet whose works, cycle and base level are found.
-    fn fitted(sheet: &Sheet, works: [Load; 16], cycle: u32, base: u8) -> Table
-        requires placed { Placed load_of no_load 16 (content sheet.now).tasks works }
-        requires cycle { (Least (loads_of (content sheet.now).tasks) cycle) × (cycle ≤ 30000) }
-        requires base { Lowest (content sheet.now).levels (fits_at (loads_of (content sheet.now).tasks) cycle) base }
-        ensures { admitted result ≡ table_of (content sheet.now) cycle base }
+    fn fitted(sheet: &Sheet, tasks: &TaskSet, cycle: Turn, base: Level) -> Table
+        requires tasks { tasks.now.loads ≡ loads_of (content sheet.now).tasks }
+        requires cycle { Least tasks.now.loads cycle.ticks }
+        requires base { Lowest (content sheet.now).levels (fits_at tasks.now.loads cycle.ticks) base.percent }
+        ensures { admitted result ≡ table_of (content sheet.now) cycle.ticks base.percent }
     {
-        let tasks = sheet.tasks();
-        let levels = sheet.levels();
-        let count = tasks.len();
-        let allowances = allowances_of(&works[0..count], base as u32);
         Table {
-            names: names_of(tasks),
-            works: Workload::new(works, count, cycle),
-            allowances: Workload::new(allowances, count, cycle),
-            levels: levels_of(levels),
-            level_count: levels.len(),
+            names: Places::mapped(sheet.tasks(), |task| task.name),
+            works: Workload::new(tasks.loads, cycle),
+            allowances: Workload::new(tasks.allowances(base), cycle),
+            levels: Places::of(sheet.levels()),
             base,
             power: sheet.power(),
         }
@@ -103,7 +81,7 @@ impl Table {
     pub fn names(&self) -> &[Name]
         ensures { result.now ≡ (admitted self.now).names }
     {
-        &self.names[0..self.works.loads().len()]
+        self.names.entries()
     }
 
     // The works and periods of the tasks, by place.
@@ -126,14 +104,14 @@ impl Table {
     pub fn levels(&self) -> &[u8]
         ensures { result.now ≡ (admitted self.now).levels }
     {
-        &self.levels[0..self.level_count]
+        self.levels.entries()
     }
 
     // The base level in percent: the lowest that fits.
     pub fn base(&self) -> u8
         ensures { result ≡ (admitted self.now).base }
     {
-        self.base
+        self.base.percent
     }
 
     // The power figures of one board.

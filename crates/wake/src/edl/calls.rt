@@ -1,9 +1,8 @@
 //! The calls of the EDL plan.
 ghost use Rattle.std.specs.Prelude.{◌≡◌, ℕ, ◌<◌, ◌≤◌, [], length, MatchResult, slice_index};
 ghost use Rattle.basis.specs.Faults.{fault_of};
-ghost use Rattle.basis.specs.declared.fault.Layer.TheVariants.{Plan as PlanLayer};
+ghost use Rattle.basis.specs.declared.fault.Reason.TheVariants.{ShortMemory};
 ghost use Rattle.theory.specs.Sums.{bit};
-ghost use Rattle.theory.specs.Loads.{period};
 ghost use Rattle.theory.specs.Lates.{edl, due_at};
 ghost use Rattle.table.specs.Workloads.{loads_in, turn_of};
 ghost use Rattle.wake.specs.Plans.{late_of};
@@ -11,19 +10,16 @@ ghost use Rattle.wake.specs.Edls.{planned_of, bytes_of, lent_of, Laid};
 
 use crate::edl::EdlPlan;
 use crate::plan::WakePlan;
-use basis::{Fault, Layer};
+use basis::{Fault, Reason};
 use table::Workload;
 use theory::Load;
 
 // The work of the jobs that are due at a tick.
-fn work_due(loads: &[Load], tick: u32) -> u32
-    requires periods { (i : ℕ) → i < length loads.now → 0 < period loads.now i }
-    requires small { due_at loads.now tick ≤ 30000 }
-    ensures { result ≡ due_at loads.now tick }
+fn work_due(workload: &Workload, tick: u32) -> u32
+    ensures { result ≡ due_at (loads_in workload.now) tick }
 {
     let mut sum = 0;
-    for i in 0..loads.len() {
-        let load = loads[i];
+    for load in workload.loads() {
         if tick % load.period == 0 {
             sum += load.work;
         }
@@ -32,21 +28,17 @@ fn work_due(loads: &[Load], tick: u32) -> u32
 }
 
 // Writes the plan, one byte a tick, from the last tick of the cycle down: each tick takes one slot of the backlog, if there is one.
+// It goes by ticks and not by bytes, since the work that falls due is asked by tick.
 fn write_plan(memory: &mut [u8], workload: &Workload)
     requires { turn_of workload.now ≤ length memory.old }
     ensures ticks { (t : ℕ) → t < turn_of workload.now → slice_index memory.new t ≡ bit (edl (loads_in workload.now) (turn_of workload.now) t) }
     ensures further { (t : ℕ) → turn_of workload.now ≤ t → slice_index memory.new t ≡ slice_index memory.old t }
 {
-    let loads = workload.loads();
     let mut backlog = 0;
-    for t in (0..workload.cycle()).rev() {
-        backlog += work_due(loads, t + 1);
-        if backlog > 0 {
-            memory[t as usize] = 1;
-            backlog -= 1;
-        } else {
-            memory[t as usize] = 0;
-        }
+    for tick in (0..workload.cycle()).rev() {
+        backlog += work_due(workload, tick + 1);
+        memory[tick as usize] = u8::from(backlog > 0);
+        backlog = backlog.saturating_sub(1);
     }
 }
 
@@ -70,15 +62,11 @@ impl<'a> EdlPlan<'a> {
         ensures lent { lent_of self.new ≡ lent_of self.old }
         ensures cases { MatchResult result
             (λ _. Laid self.old workload.now self.new)
-            (λ e. (e ≡ fault_of 8 PlanLayer 0) × (length (bytes_of self.old) < turn_of workload.now) × (self.new ≡ self.old)) }
+            (λ e. (e ≡ fault_of ShortMemory) × (length (bytes_of self.old) < turn_of workload.now) × (self.new ≡ self.old)) }
     {
         let cycle = workload.cycle() as usize;
         if self.memory.len() < cycle {
-            return Err(Fault {
-                number: 8,
-                layer: Layer::Plan,
-                line: 0,
-            });
+            return Err(Fault::from(Reason::ShortMemory));
         }
         let memory = std::mem::replace(&mut self.memory, &mut []);
         write_plan(&mut *memory, workload);
@@ -109,18 +97,5 @@ impl<'a> WakePlan for EdlPlan<'a> {
 
     fn is_awake(&self, tick: u32) -> bool {
         self.tick((tick % self.workload.cycle()) as usize)
-    }
-
-    fn rest_ticks(&self, a: u32, b: u32) -> Option<u32> {
-        if a > b || b > self.workload.cycle() {
-            return None;
-        }
-        let mut rests = 0;
-        for t in a..b {
-            if !self.tick(t as usize) {
-                rests += 1;
-            }
-        }
-        Some(rests)
     }
 }

@@ -1,64 +1,30 @@
 //! The calls of a slot machine.
-ghost use Rattle.std.specs.Prelude.{◌≡◌, ℕ, ◌+◌, ◌-◌, ◌<◌, ◌≤◌, Bool, length, get_or, if◌then◌else◌, Some, None, nat_lt, slice_index_or};
-ghost use Rattle.theory.specs.Loads.{size, work, period};
+ghost use Rattle.std.specs.Prelude.{◌≡◌, ℕ, ◌+◌, ◌<◌, ◌≤◌, length, if◌then◌else◌, None, nat_lt, slice_index_or};
+ghost use Rattle.theory.specs.Loads.{size, work};
 ghost use Rattle.theory.specs.Slots.{owner, next};
 ghost use Rattle.table.specs.Workloads.{loads_in};
-ghost use Rattle.wake.specs.Jobs.{no_job, first_job, renewed, spent};
+ghost use Rattle.wake.specs.Jobs.{no_job, first_job};
 ghost use Rattle.wake.specs.Machines.{serves_of, tick_of, left_in, owner_in, last_tick};
 
 use crate::job::{Job, Waiting};
 use crate::machine::SlotMachine;
-use basis::pick;
+use basis::{Places, pick};
 use table::Workload;
-use theory::Load;
 
 // The tick at which a machine stands still.
 const LAST_TICK: u32 = 100_000_000;
 
-const NO_JOB: Job = Job {
-    due: 0,
-    release: 0,
-    place: 0,
-    left: 0,
-};
-
 // The first jobs of the tasks, released at tick 0 with as many slots as their work.
-fn first_jobs(loads: &[Load]) -> [Job; 16]
-    requires room { length loads.now ≤ 16 }
-    requires periods { (i : ℕ) → i < length loads.now → period loads.now i ≤ 30000 }
-    ensures places { length result ≡ 16 }
-    ensures jobs { (k : ℕ) → slice_index_or result k no_job ≡ first_job loads.now k }
+fn first_jobs(workload: &Workload) -> Places<Job, 16>
+    ensures one_number { length result ≡ size (loads_in workload.now) }
+    ensures jobs { (k : ℕ) → slice_index_or result k no_job ≡ first_job (loads_in workload.now) k }
 {
-    let mut jobs = [NO_JOB; 16];
-    for i in 0..loads.len() {
-        jobs[i] = Job::released(loads[i], 0, i);
+    let loads = workload.loads();
+    let mut jobs = Places::new();
+    for (place, load) in loads.iter().enumerate() {
+        let _full = jobs.push(Job::released(*load, 0, place));
     }
     jobs
-}
-
-// Takes a slot from the job of a tick's owner.
-fn charge(jobs: &mut [Job], owner: Option<usize>)
-    requires few { length jobs.old ≤ 16 }
-    requires known { (o : ℕ) → owner ≡ Some o → (o < length jobs.old) × (0 < (get_or jobs.old o no_job).left) }
-    ensures { (k : ℕ) → slice_index_or jobs.new k no_job ≡ spent owner k (slice_index_or jobs.old k no_job) }
-{
-    if let Some(place) = owner {
-        jobs[place].left -= 1;
-    }
-}
-
-// Puts in place of each job that is due at `tick` its successor, with fresh slots.
-fn renew(jobs: &mut [Job], loads: &[Load], tick: u32)
-    requires room { (length loads.now ≤ length jobs.old) × (length loads.now ≤ 16) }
-    requires periods { (i : ℕ) → i < length loads.now → period loads.now i ≤ 30000 }
-    requires early { tick ≤ 100000000 }
-    ensures { (k : ℕ) → slice_index_or jobs.new k no_job ≡ renewed loads.now tick k (slice_index_or jobs.old k no_job) }
-{
-    for i in 0..loads.len() {
-        if jobs[i].due == tick {
-            jobs[i] = Job::released(loads[i], tick, i);
-        }
-    }
 }
 
 impl SlotMachine {
@@ -70,7 +36,7 @@ impl SlotMachine {
     {
         SlotMachine {
             workload: *workload,
-            jobs: first_jobs(workload.loads()),
+            jobs: first_jobs(workload),
             tick: 0,
         }
     }
@@ -88,14 +54,16 @@ impl SlotMachine {
             return None;
         }
         let owner = self.owner(awake);
-        let mut jobs = self.jobs;
-        charge(&mut jobs, owner);
         let workload = self.workload;
-        renew(&mut jobs, workload.loads(), self.tick + 1);
+        let tick = self.tick + 1;
+        let jobs = Places::mapped(
+            self.jobs.entries(),
+            |job| job.passed(owner, &workload, tick),
+        );
         *self = SlotMachine {
             workload,
             jobs,
-            tick: self.tick + 1,
+            tick,
         };
         owner
     }
@@ -104,10 +72,10 @@ impl SlotMachine {
     pub fn owner(&self, awake: bool) -> Option<usize>
         ensures { result ≡ owner_in self.now awake }
     {
-        if !awake {
-            return None;
+        if awake {
+            pick(self.jobs.entries(), &Waiting)
+        } else {
+            None
         }
-        let count = self.workload.loads().len();
-        pick(&self.jobs[0..count], &Waiting)
     }
 }

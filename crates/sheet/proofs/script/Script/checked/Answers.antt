@@ -4,4 +4,4 @@ use Rattle.sheet.proofs.Scripted.{all-letters}
 use Rattle.sheet.proofs.script.Script.checked.Goals as goal
 
 pub returns : goal.returns
-returns c = all-letters c.args.text.first (lines c.args.text.text.now) (sym c.in_ok-check_script.ensures)
+returns c = all-letters c.args.text.part.line (lines c.args.text.part.text.now) (sym c.in_ok-check_script.ensures)

@@ -8,7 +8,7 @@ use Rattle.sheet.proofs.script.Script.read.Goals as goal
 
 pub returns : goal.returns
 returns c =
-    let at = c.args.text.first in
-    let ls = lines c.args.text.text.now in
+    let at = c.args.text.part.line in
+    let ls = lines c.args.text.part.text.now in
     let is = c.checked.ensures in
     record { answer = is; grammar = subst (λ (r : Result (List Letters) Fault). ScriptReadAs at ls r) (sym is) (script_read_as at ls) }

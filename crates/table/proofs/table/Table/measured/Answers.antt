@@ -1,55 +1,49 @@
+use Rattle.std.proofs.Common.{◌≡◌, ◌+◌, sym, ◌∙◌, subst, rules}
+use Rattle.std.proofs.lemmas.Result.{err_from_is_err_and}
+use Rattle.basis.specs.declared.fault.Reason.TheVariants.{LongCycle, Overfull}
+use Rattle.basis.specs.Faults.{fault_at}
+use Rattle.sheet.specs.Sheets.{content}
+use Rattle.table.specs.declared.level.Level.{Level}
+use Rattle.table.specs.Admissions.{Admitted, LeastCycle, LowestBase}
 use Rattle.table.specs.Tables.{admitted}
 use Rattle.table.proofs.Verdicts as verdict
+use Rattle.table.proofs.Admissions.{sheet_levels, base-is}
 use Rattle.table.proofs.table.Table.measured.Goals as goal
 
-pub cycle_of-requires : goal.cycle_of-requires
-cycle_of-requires c = verdict.part_sound c.args.sheet.now c.tasks-tasks.ensures c.works_of-works.ensures
+pub base-requires : goal.base-requires
+base-requires c = rw c.levels.ensures (sheet_levels c.args.sheet.now)
 
-pub base_of-requires : goal.base_of-requires
-base_of-requires c =
-    record {
-      levels = verdict.levels_sheet c.args.sheet.now c.levels.ensures;
-      few = verdict.part_few c.args.sheet.now c.tasks-tasks.ensures c.works_of-works.ensures;
-      sound = verdict.part_sound c.args.sheet.now c.tasks-tasks.ensures c.works_of-works.ensures;
-      short = c.in-Ok.ensures.2;
-    }
-
-pub fitted-requires : goal.fitted-requires
-fitted-requires c =
-    let u = verdict.part_is c.args.sheet.now c.tasks-tasks.ensures c.works_of-works.ensures in
-    let found = c.in-Ok.ensures in
-    record {
-      placed = verdict.placed_sheet c.args.sheet.now c.tasks-tasks.ensures c.works_of-works.ensures;
-      cycle = (verdict.least-is c.args.sheet.now u found.0 c.levels.ensures found.1, found.2);
-      base = verdict.lowest-is c.args.sheet.now u found.0 c.levels.ensures c.in-Some.ensures;
-    }
-
-pub returns-in-Err : goal.returns-in-Err
-returns-in-Err c =
-    let found = c.in-Err.ensures in
-    record {
-      answer = verdict.refused-long c.args.sheet.now (verdict.part_is c.args.sheet.now c.tasks-tasks.ensures c.works_of-works.ensures) found.0 found.1 c.first_task.ensures;
-      cycle = tt;
-      base = tt;
-    }
-
-pub returns-in-None : goal.returns-in-None
-returns-in-None c =
-    record {
-      answer = verdict.refused_full c.args.sheet.now (verdict.part_is c.args.sheet.now c.tasks-tasks.ensures c.works_of-works.ensures) c.in-Ok.ensures.0 c.levels.ensures c.in-None.ensures;
-      cycle = tt;
-      base = tt;
-    }
-
-pub returns-in-Some : goal.returns-in-Some
-returns-in-Some c =
+pub fitted-requires-clause-base : goal.fitted-requires-clause-base
+fitted-requires-clause-base c =
     let s = c.args.sheet.now in
-    let u = verdict.part_is s c.tasks-tasks.ensures c.works_of-works.ensures in
-    let found = c.in-Ok.ensures in
-    let v = c.levels.ensures in
+    let found = verdict.some_given (λ (l : Level). l.percent) c.base.result Overfull c.base.ensures (sym c.ok_or.ensures.value ∙ c.in_ok-base.was) in
+    base-is _ (content s).levels _ (sheet_levels s) (rw c.levels.ensures at found)
+
+pub returns-in_err-cycle-clause-answer : goal.returns-in_err-cycle-clause-answer
+returns-in_err-cycle-clause-answer c =
+    let s = c.args.sheet.now in
+    let long = verdict.err_mapped _ _ _ c.cycle.result c.cycle.ensures c.map_err.ensures.cases c.in_err-cycle.was in
+    let left = err_from_is_err_and c.from_residual.result c.from_residual.ensures.1 in
+    let fault : c.in_err-cycle.field-0.0 ≡ fault_at LongCycle ((content s).first + long.0) = let made = long.2 in search rules in
+    rw (left.1, left.2, fault) (verdict.refused_long (content s) c.of-tasks.ensures long.1.0 long.1.1)
+
+pub returns-in_err-base-clause-answer : goal.returns-in_err-base-clause-answer
+returns-in_err-base-clause-answer c =
+    let s = c.args.sheet.now in
+    let some = verdict.ok_mapped _ _ _ c.cycle.result c.cycle.ensures c.map_err.ensures.cases c.in_ok-cycle.was in
+    let found = verdict.none_given (λ (l : Level). l.percent) c.base.result Overfull c.base.ensures (sym c.ok_or.ensures.value ∙ c.in_err-base.was) in
+    let left = err_from_is_err_and c.from_residual-in_err-base.result c.from_residual-in_err-base.ensures.1 in
+    rw (left.1, left.2, found.1) (verdict.refused_full (content s) c.of-tasks.ensures some.0 (rw c.levels.ensures at found.0))
+
+pub returns : goal.returns
+returns c =
+    let s = c.args.sheet.now in
+    let some = verdict.ok_mapped _ _ _ c.cycle.result c.cycle.ensures c.map_err.ensures.cases c.in_ok-cycle.was in
+    let found = verdict.some_given (λ (l : Level). l.percent) c.base.result Overfull c.base.ensures (sym c.ok_or.ensures.value ∙ c.in_ok-base.was) in
+    let low = rw c.levels.ensures at found in
     let t = admitted c.fitted.result in
     record {
-      answer = verdict.accepted s u found.0 v c.in-Some.ensures c.fitted.ensures;
-      cycle = verdict.table_least s u found.0 v t c.fitted.ensures found.1;
-      base = verdict.table_lowest s u found.0 v t c.fitted.ensures c.in-Some.ensures;
+      answer = verdict.accepted (content s) c.of-tasks.ensures some.0 low c.fitted.ensures;
+      cycle = subst (λ (a : Admitted). LeastCycle a) (sym c.fitted.ensures) (rw c.of-tasks.ensures at some.1);
+      base = subst (λ (a : Admitted). LowestBase a) (sym c.fitted.ensures) (rw c.of-tasks.ensures at (base-is _ (content s).levels _ (sheet_levels s) low));
     }

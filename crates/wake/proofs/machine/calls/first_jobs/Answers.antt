@@ -1,7 +1,10 @@
-use Rattle.std.proofs.Common.{arith}
-use Rattle.theory.specs.Loads.{period}
+use Rattle.std.proofs.Common.{length, ap, arith}
+use Rattle.table.proofs.Facts.{few_of}
+use Rattle.wake.proofs.Passes.{period_short_in}
 use Rattle.wake.proofs.machine.calls.first_jobs.Goals as goal
 
 pub released-requires : goal.released-requires
-unfolding period
-released-requires c = (omega (arith, c.requires.periods c.loop-i.i c.loop-i-test.true), omega arith)
+released-requires c =
+    let few = few_of c.args.workload.now in
+    let same = ap length c.loads-loads.ensures in
+    (grind (arith, period_short_in c.args.workload.now), omega (arith, few, same))

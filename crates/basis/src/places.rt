@@ -1,0 +1,107 @@
+//! A list in places of its own, where no memory is allocated.
+ghost use Rattle.std.specs.Prelude.{◌≡◌, ℕ, ◌<◌, ◌≤◌, [], ◌∷◌, ◌++◌, length, map, take, MatchResult, slice_index_or};
+
+use std::alloc::AllocError;
+use std::marker::Model;
+
+// What stands in a place that no entry uses.
+pub trait Blank: Copy {
+    ghost BLANK: { Self };
+
+    const BLANK: Self;
+}
+
+impl Blank for u8 {
+    ghost BLANK = { 0 };
+
+    const BLANK: u8 = 0;
+}
+
+// Up to `N` entries in as many places. Places past the entries are blank, so that lists with the same entries are the same value.
+pub struct Places<T: Blank, const N: usize> {
+    places: [T; N],
+    count: usize,
+}
+
+// Clauses see the entries, the first first.
+impl<T: Blank, const N: usize> Model for Places<T, N> {
+    ghost use Rattle.std.specs.Prelude.{◌≡◌, ◌-◌, ◌≤◌, List, length, take, drop, replicate};
+    ghost use Rattle.std.proofs.lemmas.List.{length-take-le};
+    ghost use Rattle.basis.specs.Places.{padded, padded_back};
+
+    ghost Value = { List T };
+
+    ghost view = { λ p. take p.count p.places };
+
+    ghost invariant = { λ p. (length p.places ≡ N) × (p.count ≤ length p.places) × (drop p.count p.places ≡ replicate (N - p.count) T.BLANK) };
+
+    ghost inverse = { λ xs. record { places = padded T.BLANK N xs; count = length xs } };
+
+    ghost inverse_ok = { λ p h. λ i. record { places = padded_back T.BLANK N p.count p.places h.1 h.2 i; count = length-take-le p.count p.places h.1 i } };
+}
+
+impl<T: Blank, const N: usize> Clone for Places<T, N> {
+    fn clone(&self) -> Result<Places<T, N>, AllocError> {
+        Ok(*self)
+    }
+}
+
+impl<T: Blank, const N: usize> Copy for Places<T, N> {}
+
+impl<T: Blank, const N: usize> Places<T, N> {
+    // No entry.
+    pub fn new() -> Places<T, N>
+        ensures { result ≡ [] }
+    {
+        Places {
+            places: [T::BLANK; N],
+            count: 0,
+        }
+    }
+
+    // Some entries, or the first `N` where there are more.
+    pub fn of(entries: &[T]) -> Places<T, N>
+        ensures front { result ≡ take N entries.now }
+        ensures whole { length entries.now ≤ N → result ≡ entries.now }
+    {
+        Places::mapped(entries, |entry| entry)
+    }
+
+    // The entries.
+    pub fn entries(&self) -> &[T]
+        ensures entries { result.now ≡ self.now }
+        ensures few { length self.now ≤ N }
+    {
+        let places = &self.places[..];
+        &places[0..self.count]
+    }
+
+    // One entry more, in the first blank place. Full places take none and give it back. (Like a filling list's: but that borrows its
+    // memory, and no value can lend memory to a part of itself.)
+    pub fn push(&mut self, entry: T) -> Result<(), T>
+        ensures { MatchResult result
+            (λ _. (self.new ≡ self.old ++ (entry ∷ [])) × (length self.old < N))
+            (λ y. (y ≡ entry) × (self.new ≡ self.old) × (length self.old ≡ N)) }
+    {
+        if self.count < N {
+            self.places[self.count] = entry;
+            self.count += 1;
+            Ok(())
+        } else {
+            Err(entry)
+        }
+    }
+
+    // What a function makes of each of some items, or of the first `N` where there are more.
+    pub fn mapped<S: Copy, F: Fn(S) -> T>(items: &[S], f: F) -> Places<T, N>
+        requires callable { (i : ℕ) (d : S) → i < length items.now → F.pre f (slice_index_or items.now i d) }
+        ensures front { (h : S → T) → ((x : S) (y : T) → F.post f x y → y ≡ h x) → result ≡ take N (map h items.now) }
+        ensures whole { length items.now ≤ N → (h : S → T) → ((x : S) (y : T) → F.post f x y → y ≡ h x) → result ≡ map h items.now }
+    {
+        let mut places = Places::new();
+        for item in items {
+            let _full = places.push(f(*item));
+        }
+        places
+    }
+}
