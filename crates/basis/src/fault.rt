@@ -11,6 +11,7 @@ pub enum Layer {
     Sheet,
     Plan,
     Script,
+    // of refusals of the run, a layer still to come
     Run,
 }
 
@@ -27,7 +28,7 @@ pub enum Reason {
     Level,
     // a task has a name that is used or is `rest`, or more work than its period
     Task,
-    // with a task the cycle passes the most ticks that it may have
+    // the cycle has more ticks than it may, first with the task of this line
     LongCycle,
     // no level fits the cycle
     Overfull,
@@ -108,7 +109,7 @@ impl fmt::Display for Layer {
     }
 }
 
-// `refused NUMBER LAYER line LINE`, where a fault that names no line has 0 for it.
+// `refused NUMBER LAYER line LINE`, with line 0 where it names none.
 impl fmt::Display for Fault {
     ghost output = { λ fault. Some (fault_text fault) };
 

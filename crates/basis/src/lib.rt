@@ -1,5 +1,4 @@
-//! What every layer is built on: faults, lists in places of their own and in memory of the caller, and the pick of an entry from a
-//! row.
+//! What every layer is built on: faults, lists of a fixed room, and the pick of an entry from a row.
 #![tactic(auto)]
 
 pub mod fault;

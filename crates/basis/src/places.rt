@@ -17,7 +17,8 @@ impl Blank for u8 {
     const BLANK: u8 = 0;
 }
 
-// Up to `N` entries in as many places. Places past the entries are blank, so that lists with the same entries are the same value.
+// A list of at most `N` entries in `N` places of its own. Places past the entries are blank, so that lists with the same entries are the
+// same value.
 pub struct Places<T: Blank, const N: usize> {
     places: [T; N],
     count: usize,
@@ -40,6 +41,7 @@ impl<T: Blank, const N: usize> Model for Places<T, N> {
     ghost inverse_ok = { λ p h. λ i. record { places = padded_back T.BLANK N p.count p.places h.1 h.2 i; count = length-take-le p.count p.places h.1 i } };
 }
 
+// By hand, since a derived one goes field by field, and the proof of its places did not close.
 impl<T: Blank, const N: usize> Clone for Places<T, N> {
     fn clone(&self) -> Result<Places<T, N>, AllocError> {
         Ok(*self)
@@ -59,7 +61,7 @@ impl<T: Blank, const N: usize> Places<T, N> {
         }
     }
 
-    // Some entries, or the first `N` where there are more.
+    // The list of these entries, or of the first `N` where there are more.
     pub fn of(entries: &[T]) -> Places<T, N>
         ensures front { result ≡ take N entries.now }
         ensures whole { length entries.now ≤ N → result ≡ entries.now }
@@ -76,8 +78,8 @@ impl<T: Blank, const N: usize> Places<T, N> {
         &places[0..self.count]
     }
 
-    // One entry more, in the first blank place. Full places take none and give it back. (Like a filling list's: but that borrows its
-    // memory, and no value can lend memory to a part of itself.)
+    // One entry more, in the first blank place. Full places take none and give it back.
+    // Apart from `Filling::push`, which writes to memory that is lent: no value can lend memory to a part of itself.
     pub fn push(&mut self, entry: T) -> Result<(), T>
         ensures { MatchResult result
             (λ _. (self.new ≡ self.old ++ (entry ∷ [])) × (length self.old < N))
@@ -85,6 +87,7 @@ impl<T: Blank, const N: usize> Places<T, N> {
     {
         if self.count < N {
             self.places[self.count] = entry;
+            // its own entries, and no index
             self.count += 1;
             Ok(())
         } else {
@@ -92,7 +95,7 @@ impl<T: Blank, const N: usize> Places<T, N> {
         }
     }
 
-    // What a function makes of each of some items, or of the first `N` where there are more.
+    // The list of what a function makes of each item, or of the first `N` items where there are more.
     pub fn mapped<S: Copy, F: Fn(S) -> T>(items: &[S], f: F) -> Places<T, N>
         requires callable { (i : ℕ) (d : S) → i < length items.now → F.pre f (slice_index_or items.now i d) }
         ensures front { (h : S → T) → ((x : S) (y : T) → F.post f x y → y ≡ h x) → result ≡ take N (map h items.now) }
@@ -100,6 +103,7 @@ impl<T: Blank, const N: usize> Places<T, N> {
     {
         let mut places = Places::new();
         for item in items {
+            // full places take no more
             let _full = places.push(f(*item));
         }
         places

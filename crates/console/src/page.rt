@@ -15,7 +15,7 @@ use table::Table;
 use theory::Load;
 use wake::{Always, WakePlan};
 
-// Adds a refusal as a line: `refused NUMBER LAYER line LINE`.
+// Adds a refusal as a line: `refused NUMBER LAYER line LINE`. Stays beside `Display`: other programs may call it.
 pub fn put_refusal(out: &mut Vec<u8>, heap: Global, fault: Fault) -> Result<(), AllocError>
     ensures { OnOk result (out.new.items ≡ out.old.items ++ refusal_text fault) }
 {
@@ -81,8 +81,8 @@ impl Text {
         Ok(())
     }
 
-    // Adds the lines of all first jobs, from the owners of the ticks of one cycle on both boards. The loads are read by place, since of a
-    // `zip` that is also counted the proof does not find at which place a pair stands.
+    // Adds the lines of all first jobs, from the owners of the ticks of one cycle on both boards. The loads are read by place: zipped
+    // and counted at once, the proof did not close.
     fn put_firsts(
         &mut self,
         table: &Table,
@@ -95,6 +95,7 @@ impl Text {
     {
         let loads = table.works().loads();
         for (place, name) in table.names().iter().enumerate() {
+            // there is no `From` between these
             let period = loads[place].period as usize;
             self.put_first(*name, place, &primary[..period], &spare[..period])?;
         }
@@ -107,6 +108,7 @@ impl Text {
     {
         let works = table.works();
         let cycle = works.cycle();
+        // there is no `From` between these
         let mut memory = vec![in self.heap(); 0u8; cycle as usize]?;
         let plan = late_plan(&mut memory, works);
         self.put_awake(&plan)?;
@@ -157,8 +159,7 @@ impl Page {
         ensures { result.now ≡ text_of self.now }
     {
         match self {
-            Page::Plan(text) => text.as_slice(),
-            Page::Refusal(text) => text.as_slice(),
+            Page::Plan(text) | Page::Refusal(text) => text.as_slice(),
         }
     }
 

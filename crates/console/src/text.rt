@@ -55,6 +55,13 @@ impl Text {
         self.put(printed.as_bytes())
     }
 
+    // Adds one span of ticks, its end excluded.
+    fn put_span(&mut self, start: usize, end: usize) -> Result<(), AllocError>
+        ensures { OnOk result (self.new ≡ self.old ++ span_text start end) }
+    {
+        write!(self, " {start}..{end}")
+    }
+
     // One tick more: a span that ends before it is added. Answers where the span that is then open began.
     fn put_turn(
         &mut self,
@@ -66,7 +73,7 @@ impl Text {
     {
         match start {
             Some(first) if !marked => {
-                write!(self, " {first}..{t}")?;
+                self.put_span(first, t)?;
                 Ok(None)
             }
             None if marked => Ok(Some(t)),
@@ -83,8 +90,7 @@ impl Text {
             start = self.put_turn(start, t, *marked)?;
         }
         if let Some(first) = start {
-            let end = marks.len();
-            write!(self, " {first}..{end}")?;
+            self.put_span(first, marks.len())?;
         }
         Ok(())
     }

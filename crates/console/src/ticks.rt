@@ -38,8 +38,8 @@ pub(crate) fn late_plan<'a>(memory: &'a mut [u8], workload: &Workload) -> EdlPla
     plan
 }
 
-// Who owns each of the first `n` ticks of a board that serves a workload and follows a plan. A loop and no chain, of which a closure that
-// steps a machine would say nothing.
+// Who owns each of the first `n` ticks of a board that serves a workload and follows a plan. A loop and no chain: the contract of a
+// closure that steps the machine tells a chain nothing.
 pub(crate) fn owners<W: WakePlan>(
     heap: Global,
     workload: &Workload,

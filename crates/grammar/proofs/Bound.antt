@@ -6,6 +6,10 @@ use Rattle.grammar.specs.Binds.{bind}
 pub not_both : {A E : Type 0} {x : A} {e : E} → Err e ≡ Ok x → ⊥
 not_both h = let z : ◌≡◌ {A = ℕ} 0 1 = cc in omega arith
 
+-- what is accepted is one thing
+pub ok_injective : {A E : Type 0} {x y : A} → ◌≡◌ {A = Result A E} (Ok x) (Ok y) → x ≡ y
+ok_injective e = cc
+
 -- what is accepted after a first value was accepted there
 pub bind_ok : {A B E : Type 0} (r : Result A E) (f : A → Result B E) (y : B) → bind r f ≡ Ok y → (x : A) × (r ≡ Ok x) × (f x ≡ Ok y)
 bind_ok (Ok x) f y h = (x, refl, h)

@@ -11,7 +11,8 @@ pub fn length_before(bytes: &[u8], end: u8) -> usize
     bytes.iter().take_while(|b| **b != end).count()
 }
 
-// Whether two strings of bytes are the same: every fixed word of the format is compared by it.
+// Whether two strings of bytes are the same: every fixed word of the format is compared by it, in the format's own words, which a bare
+// `==` does not promise.
 pub fn same(a: &[u8], b: &[u8]) -> bool
     ensures decides { Decides result (a.now ≡ b.now) }
     ensures test { result ≡ bytes_eq a.now b.now }

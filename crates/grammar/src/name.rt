@@ -10,7 +10,7 @@ use basis::Blank;
 const LONGEST: usize = 8;
 
 // A task's name: 1 to 8 letters, then zeros. The blank name is all zeros. Two names are the same exactly when their bytes are.
-// Its bytes are in a fixed place, since nothing is allocated, and may be any, so it is no `str`.
+// Eight bytes in a fixed place, since nothing is allocated, and no `str`, since any bytes make a name.
 #[derive(Clone, Copy, Debug, PartialEq, Eq)]
 pub struct Name {
     bytes: [u8; 8],

@@ -20,7 +20,7 @@ pub struct Entry {
 }
 
 impl Section {
-    // The section of this name. By comparisons and no `match`, of whose byte strings a proof learns only the lengths.
+    // The section of this name. Compared one by one: of a `match` on byte strings a proof learns only their lengths.
     pub fn named(text: &[u8]) -> Option<Section>
         ensures { result ≡ section_of text.now }
     {
@@ -46,7 +46,7 @@ impl Section {
         }
     }
 
-    // How many lines its body has at most.
+    // How many lines its body has at most. (By section as the heading, but another fact of the rules.)
     pub fn most_lines(self) -> u32
         ensures { result ≡ most_lines self }
     {

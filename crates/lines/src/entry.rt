@@ -26,6 +26,7 @@ pub fn read_entry(line: &[u8], fault: Fault) -> Result<Entry, Fault>
     }
     Ok(Entry {
         section,
+        // there is no `From` between these
         count: count as usize,
     })
 }

@@ -79,6 +79,7 @@ pub fn read_level(line: &[u8], at: usize) -> Result<u8, Fault>
     ensures { result ≡ level_of at line.now }
 {
     let level = Fields::of(line, at).last_number(1, 100)?;
+    // it fits, and `u8::try_from` would add a refusal that cannot be
     Ok(level as u8)
 }
 
@@ -96,7 +97,7 @@ pub fn read_power(line: &[u8], at: usize) -> Result<Power, Fault>
     })
 }
 
-// The task on line `at` of the file.
+// The task on line `at` of the file. (Like the power figures, but other fields of other types.)
 pub fn read_task(line: &[u8], at: usize) -> Result<TaskLine, Fault>
     ensures { result ≡ task_of at line.now }
 {

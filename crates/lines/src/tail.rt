@@ -1,4 +1,4 @@
-//! What is left of a line.
+//! The unread end of a line.
 ghost use Rattle.std.specs.Prelude.{◌≡◌, ◌+◌, ◌^◌, ◌<◌, length};
 
 // What is left of a line, from its byte `at` on.

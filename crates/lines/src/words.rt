@@ -29,7 +29,7 @@ fn is_digit(b: u8) -> bool
     matches!(b, b'0'..=b'9')
 }
 
-// Whether a piece of a line is a name: 1 to 8 letters.
+// Whether a piece of a line is a name: 1 to 8 letters. A loop, since the proof of `all` did not close.
 fn is_name(piece: &[u8]) -> bool
     ensures { result ≡ spells_name piece.now }
 {

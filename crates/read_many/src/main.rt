@@ -9,16 +9,13 @@ use std::env;
 // The number that the only argument gives.
 fn count_given(rt: &HostRuntime) -> anyhow::Result<u32> {
     let mut words = env::args(rt)?.skip(1);
-    let Some(word) = words.next() else {
+    let (Some(word), None) = (words.next(), words.next()) else {
         bail!("usage: read_many COUNT < FILE");
     };
-    if words.next().is_some() {
-        bail!("usage: read_many COUNT < FILE");
-    }
     Ok(word.parse::<u32>()?)
 }
 
-// How many of `count` readings of a text are accepted.
+// How many of `count` readings of a text are accepted. A loop that repeats, since each reading changes the sheet.
 fn accepted(text: &[u8], count: u32) -> u32 {
     let mut sheet = Sheet::blank();
     let mut accepted = 0u32;

@@ -1,7 +1,6 @@
 -- The numbers of each task that was read are in their range.
-use Rattle.std.proofs.Common.{◌≡◌, ℕ, ◌+◌, true, List, [], ◌∷◌, Ok, Result, sym, refl, subst}
+use Rattle.std.proofs.Common.{◌≡◌, ℕ, ◌+◌, true, List, [], ◌∷◌, Ok, sym, refl, subst}
 use Rattle.std.proofs.lemmas.Bool.{and_from, le-leb}
-use Rattle.basis.specs.declared.fault.Fault.{Fault}
 use Rattle.grammar.specs.declared.task.TaskLine.{TaskLine}
 use Rattle.grammar.specs.declared.section.Entry.{Entry}
 use Rattle.grammar.specs.declared.section.Section.{Section}
@@ -13,7 +12,7 @@ use Rattle.grammar.specs.Fields.{bad_line, level_of, power_of, task_of}
 use Rattle.grammar.specs.Grammar.{Pairs, IsTask, IsWithin}
 use Rattle.grammar.specs.Texts.{Lines, first_of}
 use Rattle.grammar.proofs.Bodied.{items_ok, task_reads}
-use Rattle.grammar.proofs.Bound.{bind_ok}
+use Rattle.grammar.proofs.Bound.{ok_injective, bind_ok}
 
 in_range : (low high : ℕ) (s : List ℕ) (v : ℕ) → IsWithin low high s v → within low high v ≡ true
 in_range low high s v h = and_from _ _ (le-leb low v h.least) (le-leb v high h.most)
@@ -33,25 +32,21 @@ items-ranged at count ls x e =
     let k = items_ok task_reads at count [] ls x e in
     subst (λ (ts : List TaskLine). ranged ts ≡ true) (sym k.3) (all-ranged k.0 k.1 k.4)
 
--- what was accepted is one thing
-same : {A : Type 0} (x y : A) → ◌≡◌ {A = Result A Fault} (Ok x) (Ok y) → x ≡ y
-same x y h = cc
-
 -- a body leaves them so, whatever its section
 section_ranged : (s : Section) (heading count : ℕ) (t : Told) (ls : Lines) (x : Told × Lines) → ranged t.tasks.items ≡ true
     → section_from s heading count t ls ≡ Ok x → ranged x.0.tasks.items ≡ true
 section_ranged Levels heading count t ls x h e =
     let k = bind_ok (body_lines level_of heading count ls) _ x e in
-    subst (λ (x : Told × Lines). ranged x.0.tasks.items ≡ true) (same _ x k.2) h
+    subst (λ (x : Told × Lines). ranged x.0.tasks.items ≡ true) (ok_injective k.2) h
 section_ranged Power heading count t ls x h e =
     let k = bind_ok (first_of (bad_line (heading + 1)) (power_of (heading + 1)) ls) _ x e in
-    subst (λ (x : Told × Lines). ranged x.0.tasks.items ≡ true) (same _ x k.2) h
+    subst (λ (x : Told × Lines). ranged x.0.tasks.items ≡ true) (ok_injective k.2) h
 section_ranged Tasks heading count t ls x h e =
     let k = bind_ok (body_lines task_of heading count ls) _ x e in
     let i = bind_ok (items_from task_of (heading + 1) count [] ls) _ k.0 k.1 in
     let n : ranged k.0.0.items ≡ true =
-    subst (λ (y : Body TaskLine × Lines). ranged y.0.items ≡ true) (same _ k.0 i.2) (items-ranged (heading + 1) count ls i.0 i.1) in
-    subst (λ (x : Told × Lines). ranged x.0.tasks.items ≡ true) (same _ x k.2) n
+    subst (λ (y : Body TaskLine × Lines). ranged y.0.items ≡ true) (ok_injective i.2) (items-ranged (heading + 1) count ls i.0 i.1) in
+    subst (λ (x : Told × Lines). ranged x.0.tasks.items ≡ true) (ok_injective k.2) n
 
 body_ranged : (e : Entry) (at : ℕ) (t : Told) (ls : Lines) (x : Told × Lines) → ranged t.tasks.items ≡ true → body_of e at t ls ≡ Ok x → ranged x.0.tasks.items ≡ true
 body_ranged e at t ls x h k =

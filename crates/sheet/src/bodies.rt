@@ -13,7 +13,8 @@ use crate::told::Told;
 use basis::{Blank, Fault, Filling, Places};
 use grammar::{Entry, Power, Reason, Section};
 
-// Reads the first `count` lines of a part into places, and gives back the part after them.
+// Reads the first `count` lines of a part into places, and gives back the part after them. They are collected in a filling list, which
+// takes entries of any kind and says when it is full.
 fn read_items<'a, T: Item + Blank, const N: usize>(
     part: Part<'a>,
     count: usize,

@@ -16,8 +16,8 @@ use basis::{Fault, Filling};
 use grammar::{Entry, Power, Reason, TaskLine};
 use lines::{read_entry, read_level, read_power, read_task};
 
-// What a line is read to: a line of the contents, a level, the power figures or a task. All are read by one function; an impl only
-// names the reader of its kind of line. A line and its number go no further than this one call, and so are no type.
+// What a line is read to: a line of the contents, a level, the power figures or a task. An impl names the reader of its kind of line, a
+// public call of `lines`.
 pub(crate) trait Item: Copy + Sized {
     // Why a missing line is refused.
     ghost MISSING: { Reason };
@@ -26,6 +26,7 @@ pub(crate) trait Item: Copy + Sized {
 
     const MISSING: Reason;
 
+    // What a line says. A line and its number go no further than this call, and so are no type.
     fn read(line: &[u8], at: usize) -> Result<Self, Fault>
         ensures { result ≡ of at line.now };
 }
@@ -105,6 +106,7 @@ impl<'a> Part<'a> {
         ensures value { left_with result (entries_of items.new) ≡ items_from T.Item.of self.entry.line count (entries_of items.old) (lines_of self.entry) }
     {
         let mut rest = self;
+        // so many lines, and no index
         for _ in 0..count {
             let (item, after) = rest.item::<T>()?;
             match items.push(item) {

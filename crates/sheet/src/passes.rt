@@ -23,7 +23,7 @@ pub(crate) fn check_levels(levels: &[u8], heading: usize) -> Result<(), Fault>
     Ok(())
 }
 
-// Whether one of the tasks has this name.
+// Whether one of the tasks has this name. A loop, since the proof of `any` did not close.
 fn is_named(name: &[u8], tasks: &[TaskLine]) -> bool
     ensures { result ≡ is_named name.now tasks.now }
 {

@@ -46,7 +46,7 @@ impl<'a> ScriptText<'a> {
 }
 
 impl<'a> Script<'a> {
-    // The script whose lines have passed.
+    // The script whose lines have passed. Apart from `read`, whose clause `grammar` is proved of its answer.
     fn checked(text: ScriptText<'a>) -> Result<Script<'a>, Fault>
         ensures { script_in result ≡ script_from (start_in text.entry) (lines_in text.entry) }
     {

@@ -5,7 +5,7 @@ pub mod calls;
 use basis::Places;
 use grammar::{Power, TaskLine};
 
-// What the bodies say that are read, with the line of the heading of the levels and of the tasks.
+// What the bodies read so far say, with the lines of the headings of the levels and of the tasks, each 0 until its body is read.
 #[derive(Clone, Copy)]
 pub struct Told {
     pub levels: Places<u8, 8>,

@@ -5,16 +5,11 @@ use Rattle.std.proofs.lemmas.List.{length-map}
 use Rattle.basis.specs.declared.fault.Reason.TheVariants.{LongCycle, Overfull}
 use Rattle.basis.specs.Faults.{fault_at, fault_of}
 use Rattle.grammar.specs.Sheets.{Content}
+use Rattle.grammar.proofs.Bound.{not_both, ok_injective}
 use Rattle.theory.specs.Loads.{Loads}
 use Rattle.table.specs.Cycles.{cycle_of, long_at}
 use Rattle.table.specs.Allowances.{fits_at, base_of}
 use Rattle.table.specs.Admissions.{Admitted, load_of, loads_of, line_at, table_of, with_base, with_cycle, admit_of}
-
-ok_injective : {T E : Type 0} {x y : T} → ◌≡◌ {A = Result T E} (Ok x) (Ok y) → x ≡ y
-ok_injective e = cc
-
-ok≢err : {T E : Type 0} {x : T} {y : E} → ◌≡◌ {A = Result T E} (Ok x) (Err y) → ⊥
-ok≢err e = cc
 
 -- what is known of a result once `map_err` has run on it
 module _ {T E D : Type 0} (P : T → Type 0) (Q : E → Type 0) (R : E → D → Type 0) where
@@ -23,17 +18,17 @@ module _ {T E D : Type 0} (P : T → Type 0) (Q : E → Type 0) (R : E → D →
   ok_mapped (Err y) h ran e = absurd (subst (λ n. IsErrAnd n (R y)) e ran)
 
   pub err_mapped : (r : Result T E) {m : Result T D} {d : D} → MatchResult r P Q → MatchResult r (λ x. m ≡ Ok x) (λ e. IsErrAnd m (R e)) → m ≡ Err d → (e : E) × Q e × R e d
-  err_mapped (Ok y) h ran e = absurd (ok≢err (sym ran ∙ e))
+  err_mapped (Ok y) h ran e = absurd (not_both (sym (sym ran ∙ e)))
   err_mapped (Err y) h ran e = (y, h, subst (λ n. IsErrAnd n (R y)) e ran)
 
 -- what is known of an option once `ok_or` has run on it
 module _ {T E B : Type 0} (f : T → B) where
   pub some_given : (o : Option T) (w : E) {x : T} {b : Option B} → option_map f o ≡ b → ok_or o w ≡ Ok x → b ≡ Some (f x)
   some_given (Some y) w {x = x} h e = let g : y ≡ x = ok_injective e in sym h ∙ ap (λ z. Some (f z)) g
-  some_given None w h e = absurd (ok≢err (sym e))
+  some_given None w h e = absurd (not_both e)
 
   pub none_given : (o : Option T) (w : E) {d : E} {b : Option B} → option_map f o ≡ b → ok_or o w ≡ Err d → (b ≡ None) × (d ≡ w)
-  none_given (Some y) w h e = absurd (ok≢err e)
+  none_given (Some y) w h e = absurd (not_both (sym e))
   none_given None w h e = (sym h, cc)
 
 module _ (c : Content) {T : Loads} (u : T ≡ loads_of c.tasks) where

@@ -55,7 +55,7 @@ impl Entry<Turn> for Rung {
 }
 
 impl TaskSet {
-    // The allowances at a level that fall due in a cycle.
+    // The allowances at a level that fall due in a cycle. A loop, since the `sum` of a chain is no nearer to the sum over the places.
     fn demand(&self, level: Level, turn: Turn) -> u64
         ensures { result ≡ load (allowed level.percent self.now.loads) turn.ticks }
     {

@@ -8,7 +8,8 @@ pub mod calls;
 use table::Workload;
 
 // The plan that works as late as it can (earliest deadline late), one byte a tick in memory lent by the caller: 1 awake, 0 rest.
-// `laid` bytes of the memory are the plan's; the blank plan has none and rests. The memory is the caller's and nothing is allocated.
+// `laid` bytes of the memory are the plan's; the blank plan has none and rests. The memory is the caller's, since nothing is
+// allocated, and bytes, as the rules of the plan have it.
 #[derive(Drop)]
 pub struct EdlPlan<'a> {
     workload: Workload,

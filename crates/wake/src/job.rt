@@ -42,6 +42,7 @@ impl Job {
         Job {
             due: tick + load.period,
             release: tick,
+            // there is no `From` between these
             place: place as u32,
             left: load.work,
         }
@@ -52,6 +53,7 @@ impl Job {
         requires { owner ≡ Some self.place → 0 < self.left }
         ensures { result ≡ spent owner self.place self }
     {
+        // there is no `From` between these
         if owner == Some(self.place as usize) {
             self.left -= 1;
         }
@@ -67,6 +69,7 @@ impl Job {
         if self.due != tick {
             return self;
         }
+        // there is no `From` between these
         let place = self.place as usize;
         Job::released(workload.loads()[place], tick, place)
     }

@@ -11,7 +11,7 @@ use basis::Places;
 use table::Workload;
 
 // The slot machine of one board: each task's current job, with the slots left of it, at the start of a tick.
-// It goes up to tick 100,000,000 and stands still there.
+// It goes up to tick 100,000,000 and stands still there. The jobs are a list of their own, since the workload is what the plan is for.
 #[derive(Clone, Copy)]
 pub struct SlotMachine {
     workload: Workload,

@@ -23,7 +23,8 @@ pub trait WakePlan {
     fn is_awake(&self, tick: u32) -> bool
         ensures { result ≡ cyclic (plan self.now).cycle (plan self.now).awake tick };
 
-    // In how many ticks from `a` up to but excluding `b` it rests; absent when a > b or b passes the cycle.
+    // In how many ticks from `a` up to but excluding `b` it rests; absent when a > b or b passes the cycle. A loop, since the proof of a
+    // chain's `sum` did not close.
     fn rest_ticks(&self, a: u32, b: u32) -> Option<u32>
         ensures { result ≡ rest_ticks (plan self.now).cycle (plan self.now).awake a b }
     {

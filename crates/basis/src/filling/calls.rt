@@ -51,6 +51,7 @@ impl<'a, T: Copy> Filling<'a, T> {
     {
         if self.len < self.memory.len() {
             self.memory[self.len] = x;
+            // its own entries, and no index
             self.len += 1;
             Ok(())
         } else {

@@ -49,7 +49,7 @@ impl Sheet {
         Ok(())
     }
 
-    // Fills the sheet in, pass by pass. A refusal leaves it blank.
+    // Fills the sheet in, pass by pass. A refusal leaves it blank. Apart from `read_file`, whose clause `grammar` is proved of its answer.
     fn fill<'a>(&mut self, text: &'a [u8]) -> Result<ScriptText<'a>, Fault>
         ensures answer { unread_in result ≡ unread_of (file_of text.now) }
         ensures filled { content self.new ≡ content_after (file_of text.now) }

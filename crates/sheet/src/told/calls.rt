@@ -1,4 +1,4 @@
-//! What is told before the first body.
+//! Nothing told yet.
 ghost use Rattle.std.specs.Prelude.{◌≡◌};
 ghost use Rattle.grammar.specs.Bodies.{untold};
 ghost use Rattle.sheet.specs.Views.{told_by};

@@ -14,7 +14,7 @@ use basis::{Fault, Reason};
 use table::Workload;
 use theory::Load;
 
-// The work of the jobs that are due at a tick.
+// The work of the jobs that are due at a tick. A loop, since the `sum` of a chain is no nearer to the sum over the places.
 fn work_due(workload: &Workload, tick: u32) -> u32
     ensures { result ≡ due_at (loads_in workload.now) tick }
 {
@@ -28,7 +28,7 @@ fn work_due(workload: &Workload, tick: u32) -> u32
 }
 
 // Writes the plan, one byte a tick, from the last tick of the cycle down: each tick takes one slot of the backlog, if there is one.
-// It goes by ticks and not by bytes, since the work that falls due is asked by tick.
+// By ticks: after a loop over `iter_mut`, a proof knows no byte.
 fn write_plan(memory: &mut [u8], workload: &Workload)
     requires { turn_of workload.now ≤ length memory.old }
     ensures ticks { (t : ℕ) → t < turn_of workload.now → slice_index memory.new t ≡ bit (edl (loads_in workload.now) (turn_of workload.now) t) }
@@ -37,6 +37,7 @@ fn write_plan(memory: &mut [u8], workload: &Workload)
     let mut backlog = 0;
     for tick in (0..workload.cycle()).rev() {
         backlog += work_due(workload, tick + 1);
+        // there is no `From` between these
         memory[tick as usize] = u8::from(backlog > 0);
         backlog = backlog.saturating_sub(1);
     }
@@ -57,13 +58,14 @@ impl<'a> EdlPlan<'a> {
         }
     }
 
-    // Lays the plan of a workload. Fewer bytes than the cycle has ticks are refused by number 8, and plan and bytes stay as they are.
+    // Lays the plan of a workload. Fewer bytes than the cycle has ticks are refused, and plan and bytes stay as they are.
     pub fn lay(&mut self, workload: &Workload) -> Result<(), Fault>
         ensures lent { lent_of self.new ≡ lent_of self.old }
         ensures cases { MatchResult result
             (λ _. Laid self.old workload.now self.new)
             (λ e. (e ≡ fault_of ShortMemory) × (length (bytes_of self.old) < turn_of workload.now) × (self.new ≡ self.old)) }
     {
+        // there is no `From` between these
         let cycle = workload.cycle() as usize;
         if self.memory.len() < cycle {
             return Err(Fault::from(Reason::ShortMemory));
@@ -96,6 +98,7 @@ impl<'a> WakePlan for EdlPlan<'a> {
     }
 
     fn is_awake(&self, tick: u32) -> bool {
+        // there is no `From` between these
         self.tick((tick % self.workload.cycle()) as usize)
     }
 }

@@ -14,7 +14,8 @@ use table::Workload;
 // The tick at which a machine stands still.
 const LAST_TICK: u32 = 100_000_000;
 
-// The first jobs of the tasks, released at tick 0 with as many slots as their work.
+// The first jobs of the tasks, released at tick 0 with as many slots as their work. A loop and no `mapped`, which does not tell its
+// function the place.
 fn first_jobs(workload: &Workload) -> Places<Job, 16>
     ensures one_number { length result ≡ size (loads_in workload.now) }
     ensures jobs { (k : ℕ) → slice_index_or result k no_job ≡ first_job (loads_in workload.now) k }
@@ -22,6 +23,7 @@ fn first_jobs(workload: &Workload) -> Places<Job, 16>
     let loads = workload.loads();
     let mut jobs = Places::new();
     for (place, load) in loads.iter().enumerate() {
+        // there is room for sixteen
         let _full = jobs.push(Job::released(*load, 0, place));
     }
     jobs
