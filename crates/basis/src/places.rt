@@ -95,7 +95,8 @@ impl<T: Blank, const N: usize> Places<T, N> {
         }
     }
 
-    // The list of what a function makes of each item, or of the first `N` items where there are more.
+    // The list of what a function makes of each item, or of the first `N` items where there are more. It asks that the function may be
+    // called on each item, and is public for our own crates alone.
     pub fn mapped<S: Copy, F: Fn(S) -> T>(items: &[S], f: F) -> Places<T, N>
         requires callable { (i : ℕ) (d : S) → i < length items.now → F.pre f (slice_index_or items.now i d) }
         ensures front { (h : S → T) → ((x : S) (y : T) → F.post f x y → y ≡ h x) → result ≡ take N (map h items.now) }

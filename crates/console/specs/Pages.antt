@@ -106,11 +106,12 @@ page_text (Err f) = refusal_text f
 unfoldable pub table_in : List ℕ → Result Admitted Fault
 table_in text = bind (read_of text) admit_of
 
--- the text of a page, and whether it is a plan
+-- the text of a page
 abbrev pub text_of : Page → List ℕ
 text_of (PlanPage text) = text.items
 text_of (Refusal text) = text.items
 
+-- whether it is a plan and no refusal
 abbrev pub is_plan : Page → Bool
 is_plan (PlanPage text) = true
 is_plan (Refusal text) = false
