@@ -1,5 +1,5 @@
 //! A list in places of its own, where no memory is allocated.
-ghost use Rattle.std.specs.Prelude.{◌≡◌, ℕ, ◌<◌, ◌≤◌, [], ◌∷◌, ◌++◌, length, map, take, MatchResult, slice_index_or};
+ghost use Rattle.std.specs.Prelude.{◌≡◌, ℕ, ◌<◌, ◌≤◌, [], ◌∷◌, ◌++◌, length, map, take, MatchResult, ⊤, slice_index_or};
 
 use std::alloc::AllocError;
 use std::marker::Model;
@@ -43,6 +43,10 @@ impl<T: Blank, const N: usize> Model for Places<T, N> {
 
 // By hand, since a derived one goes field by field, and the proof of its places did not close.
 impl<T: Blank, const N: usize> Clone for Places<T, N> {
+    ghost is_clone = { λ entries copy. copy ≡ entries };
+
+    ghost is_infallible = { λ _. ⊤ };
+
     fn clone(&self) -> Result<Places<T, N>, AllocError> {
         Ok(*self)
     }
