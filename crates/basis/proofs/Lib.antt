@@ -1,2 +1,3 @@
+mod Changed
 pub mod Firsts
 pub mod Reasons

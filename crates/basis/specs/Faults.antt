@@ -4,7 +4,7 @@ use Rattle.basis.specs.declared.fault.Fault.{Fault}
 use Rattle.basis.specs.declared.fault.Layer.{Layer}
 use Rattle.basis.specs.declared.fault.Layer.TheVariants.{Bytes as InBytes, Sheet as InSheet, Plan as InPlan, Script as InScript, Run as InRun}
 use Rattle.basis.specs.declared.fault.Reason.{Reason}
-use Rattle.basis.specs.declared.fault.Reason.TheVariants.{Bytes, Contents, Body, Level, Task, LongCycle, Overfull, ShortMemory, Script}
+use Rattle.basis.specs.declared.fault.Reason.TheVariants.{Bytes, Contents, Body, Level, Task, LongCycle, Overfull, ShortMemory, Script, Other}
 
 -- the number of a refusal
 abbrev pub number_of : Reason → ℕ
@@ -17,6 +17,7 @@ number_of LongCycle = 6
 number_of Overfull = 7
 number_of ShortMemory = 8
 number_of Script = 9
+number_of (Other n l) = n
 
 -- the layer that finds it
 abbrev pub layer_of : Reason → Layer
@@ -29,6 +30,12 @@ layer_of LongCycle = InPlan
 layer_of Overfull = InPlan
 layer_of ShortMemory = InPlan
 layer_of Script = InScript
+layer_of (Other n l) = l
+
+-- a reason of the library's own: it has the one number and the one layer that the rules give it
+abbrev pub IsOwn : Reason → Type 0
+IsOwn (Other n l) = ⊥
+IsOwn why = Unit {0}
 
 -- the fault of a line that is refused for a reason
 abbrev pub fault_at : Reason → ℕ → Fault

@@ -36,6 +36,8 @@ pub enum Reason {
     ShortMemory,
     // a line of the script is not two of its letters
     Script,
+    // any other refusal, told by its number and its layer: one of the run, a layer still to come, or a caller's own
+    Other { number: u8, layer: Layer },
 }
 
 // A refusal: why, and the line of the file that it names, from 1, where it names one.
@@ -60,6 +62,7 @@ impl Reason {
             Reason::Overfull => 7,
             Reason::ShortMemory => 8,
             Reason::Script => 9,
+            Reason::Other { number, .. } => number,
         }
     }
 
@@ -72,6 +75,7 @@ impl Reason {
             Reason::Contents | Reason::Body | Reason::Level | Reason::Task => Layer::Sheet,
             Reason::LongCycle | Reason::Overfull | Reason::ShortMemory => Layer::Plan,
             Reason::Script => Layer::Script,
+            Reason::Other { layer, .. } => layer,
         }
     }
 

@@ -99,6 +99,18 @@ impl<T: Blank, const N: usize> Places<T, N> {
         }
     }
 
+    // Puts what a function makes of each entry in its place, where `mapped` would make a list and copy it. It asks that the function may be
+    // called on each entry, and is public for our own crates alone.
+    pub fn update<F: Fn(T) -> T>(&mut self, f: F)
+        requires callable { (i : ℕ) (d : T) → i < length self.old → F.pre f (slice_index_or self.old i d) }
+        ensures size { length self.new ≡ length self.old }
+        ensures each { (h : T → T) → ((x : T) (y : T) → F.post f x y → y ≡ h x) → self.new ≡ map h self.old }
+    {
+        for place in 0..self.count {
+            self.places[place] = f(self.places[place]);
+        }
+    }
+
     // The list of what a function makes of each item, or of the first `N` items where there are more. It asks that the function may be
     // called on each item, and is public for our own crates alone.
     pub fn mapped<S: Copy, F: Fn(S) -> T>(items: &[S], f: F) -> Places<T, N>

@@ -215,6 +215,7 @@ module _ (text : List ℕ) where
           (record {
             before = 5 + w.0;
             line = ap Some (omega arith);
+            own = tt;
             fault = record { sequence = s; rest = rest; k = w.0; contents = a; line = refl; wrong = w.2 };
             first = λ j few v.
                 let same = announced_once v.sequence s v.rest rest v.contents a in
@@ -243,6 +244,7 @@ module _ (text : List ℕ) where
             (record {
               before = x.0.levels.heading + w.0;
               line = ap Some (omega arith);
+              own = tt;
               fault = record {
                 sequence = s;
                 content = content_of x.0;
@@ -279,6 +281,7 @@ module _ (text : List ℕ) where
               (record {
                 before = x.0.tasks.heading + w.0;
                 line = ap Some (omega arith);
+                own = tt;
                 fault = record {
                   sequence = s;
                   content = content_of x.0;
@@ -302,13 +305,13 @@ module _ (text : List ℕ) where
     refused₂ f h =
         let w = contents_fail (lines text) f h in
         subst (Refused text) (sym w.1)
-        (record { before = w.0; line = refl; fault = w.2; first = λ j few v. v (w.3 j few); earlier = earlier₂ })
+        (record { before = w.0; line = refl; own = tt; fault = w.2; first = λ j few v. v (w.3 j few); earlier = earlier₂ })
 
   -- a line's bytes
   refused₁ : (f : Fault) → bytes_from 0 0 text ≡ Err f → Refused text f
   refused₁ f h =
       let w = bytes_fail text f h in
-      subst (Refused text) (sym w.1) (record { before = w.0; line = refl; fault = w.2; first = w.3; earlier = earlier₁ })
+      subst (Refused text) (sym w.1) (record { before = w.0; line = refl; own = tt; fault = w.2; first = w.3; earlier = earlier₁ })
 
   -- a text that is refused has its fault there
   refused : (f : Fault) → file_of text ≡ Err f → Refused text f
@@ -340,7 +343,7 @@ module _ (text : List ℕ) where
       ⊎_elim (λ (n : number_of f.reason ≡ number_of g.reason).
       ⊎_elim (λ (b : h.before ≡ k.before).
       let line : f.line ≡ g.line = h.line ∙ ap (λ (x : ℕ). Some (x + 1)) b ∙ sym k.line in
-      let why : f.reason ≡ g.reason = same_reason f.reason g.reason n in
+      let why : f.reason ≡ g.reason = same_reason f.reason g.reason h.own k.own n in
       (λ i. record { reason = why i; line = line i }))
       (λ (o : (h.before < k.before) ⊎ (k.before < h.before)).
       absurd (⊎_elim (λ (l : h.before < k.before). k.first h.before l (subst (λ n. AtFault text n h.before) n h.fault))

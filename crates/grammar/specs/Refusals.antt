@@ -3,7 +3,7 @@ use Rattle.std.specs.Prelude.{◌≡◌, ℕ, zero, suc, ◌+◌, ◌<◌, ◌�
 use Rattle.std.specs.List.{slice_get}
 use Rattle.basis.specs.declared.fault.Fault.{Fault}
 use Rattle.basis.specs.declared.fault.Reason.TheVariants.{Script}
-use Rattle.basis.specs.Faults.{number_of, fault_at}
+use Rattle.basis.specs.Faults.{number_of, IsOwn, fault_at}
 use Rattle.grammar.specs.declared.letters.Letters.{Letters as LetterPair}
 use Rattle.grammar.specs.declared.section.Entry.{Entry}
 use Rattle.grammar.specs.declared.section.Section.{Section}
@@ -116,10 +116,12 @@ AtFault text (suc (suc (suc (suc zero)))) i = LevelFault text i
 AtFault text (suc (suc (suc (suc (suc zero))))) i = TaskFault text i
 AtFault text (suc (suc (suc (suc (suc (suc n)))))) i = ⊥
 
--- a text is refused with this fault: no line is at fault by an earlier number, and its line is the first at fault by its own
+-- a text is refused with this fault: it is one of the reader's own, no line is at fault by an earlier number, and its line is the first
+-- at fault by its own
 pub record Refused (text : List ℕ) (f : Fault) : Type 0 where
   pub before : ℕ
   pub line : f.line ≡ Some (before + 1)
+  pub own : IsOwn f.reason
   pub fault : AtFault text (number_of f.reason) before
   pub first : (j : ℕ) → j < before → AtFault text (number_of f.reason) j → ⊥
   pub earlier : (n j : ℕ) → n < number_of f.reason → AtFault text n j → ⊥

@@ -37,11 +37,13 @@ fn show_sheet(rt: &HostRuntime, sheet: &Sheet) -> anyhow::Result<()> {
     Ok(())
 }
 
+// Written at once: standard output gathers nothing.
 fn show_letters(rt: &HostRuntime, all: &[Letters]) -> anyhow::Result<()> {
+    let mut shown = Vec::new(rt.alloc());
     for letters in all {
-        rt.stdout()
-            .write_all(&[b' ', letters.primary, letters.spare])?;
+        shown.extend_from_slice(&[b' ', letters.primary, letters.spare])?;
     }
+    rt.stdout().write_all(shown.as_slice())?;
     Ok(())
 }
 

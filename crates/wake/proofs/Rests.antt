@@ -1,10 +1,20 @@
 -- Counts of ticks.
-use Rattle.std.proofs.Common.{◌≡◌, ℕ, ◌+◌, ◌<◌, ◌≤◌, Bool, true, false, eqb, refl, ap, mod-eq_of_lt, add-one, arith}
+use Rattle.std.proofs.Common.{◌≡◌, ℕ, zero, suc, ◌+◌, ◌<◌, ◌≤◌, Bool, true, false, not, eqb, refl, ap, mod-eq_of_lt, add-one, arith}
 use Rattle.std.proofs.lemmas.Bool.Decides.{nat_tests}
 use Rattle.std.specs.Int.{from_bool}
-use Rattle.theory.specs.Sums.{number, bit}
+use Rattle.theory.specs.Sums.{number, bit, between}
 use Rattle.theory.specs.Laws.{cyclic}
-use Rattle.theory.proofs.Sums.{number-suc}
+use Rattle.theory.proofs.Sums.{number-suc, number-zero}
+
+-- a count of what is nowhere, and so of the ticks in which a board rests that is always awake
+pub number_none : (n : ℕ) (P : ℕ → Bool) → ((k : ℕ) → k < n → P k ≡ false) → number n P ≡ 0
+unfolding bit
+number_none zero P h = number-zero P
+number_none (suc n) P h = omega (arith, number-suc n P, number_none n P (λ k l. h k (omega arith)), ap bit (h n (omega arith)))
+
+pub never_rests : (a b : ℕ) → between (λ t. not true) a b ≡ 0
+unfolding between
+never_rests a b = omega (arith, number_none a (λ t. not true) (λ k l. refl), number_none b (λ t. not true) (λ k l. refl))
 
 -- what a byte tells
 pub byte_of : (b : Bool) → from_bool b ≡ bit b

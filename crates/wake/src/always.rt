@@ -26,4 +26,13 @@ impl WakePlan for Always {
     fn is_awake(&self, _tick: u32) -> bool {
         true
     }
+
+    // It rests in no tick. At once, where the answer that plans share asks tick by tick.
+    fn rest_ticks(&self, a: u32, b: u32) -> Option<u32> {
+        if a <= b && b <= self.workload.cycle() {
+            Some(0)
+        } else {
+            None
+        }
+    }
 }

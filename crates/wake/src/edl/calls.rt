@@ -97,8 +97,14 @@ impl<'a> WakePlan for EdlPlan<'a> {
         self.workload.cycle()
     }
 
+    // In the first cycle a tick is asked by its own number, which spares the remainder: every count of rest ticks stays in it.
+    #[tactic(auto, using(crate::proofs::Rests::in_cycle))]
     fn is_awake(&self, tick: u32) -> bool {
+        let cycle = self.workload.cycle();
         // there is no `From` between these
-        self.tick((tick % self.workload.cycle()) as usize)
+        if tick < cycle {
+            return self.tick(tick as usize);
+        }
+        self.tick((tick % cycle) as usize)
     }
 }

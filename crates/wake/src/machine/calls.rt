@@ -56,17 +56,10 @@ impl SlotMachine {
             return None;
         }
         let owner = self.owner(awake);
-        let workload = self.workload;
+        let workload = &self.workload;
         let tick = self.tick + 1;
-        let jobs = Places::mapped(
-            self.jobs.entries(),
-            |job| job.passed(owner, &workload, tick),
-        );
-        *self = SlotMachine {
-            workload,
-            jobs,
-            tick,
-        };
+        self.jobs.update(|job| job.passed(owner, workload, tick));
+        self.tick = tick;
         owner
     }
 

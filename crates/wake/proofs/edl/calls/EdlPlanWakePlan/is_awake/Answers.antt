@@ -8,6 +8,6 @@ pub returns : goal.returns
 unfolding cyclic
 returns c =
     let f = c.args.self.now.workload in
-    let some : 0 < c.cycle.result = omega arith in
-    c.tick.ensures (omega (arith, mod-lt c.args.tick some))
-    ∙ ap (λ n. edl (loads_in f) (turn_of f) (c.args.tick % n)) c.cycle.ensures
+    let some : 0 < c.cycle-cycle.result = omega arith in
+    c.tick-2.ensures (omega (arith, mod-lt c.args.tick some))
+    ∙ ap (λ n. edl (loads_in f) (turn_of f) (c.args.tick % n)) c.cycle-cycle.ensures
