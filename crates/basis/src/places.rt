@@ -100,7 +100,8 @@ impl<T: Blank, const N: usize> Places<T, N> {
     }
 
     // Puts what a function makes of each entry in its place, where `mapped` would make a list and copy it. It asks that the function may be
-    // called on each entry, and is public for our own crates alone.
+    // called on each entry, and is public for our own crates alone. By place: an invariant over `iter_mut` has no name for
+    // what is written.
     pub fn update<F: Fn(T) -> T>(&mut self, f: F)
         requires callable { (i : ℕ) (d : T) → i < length self.old → F.pre f (slice_index_or self.old i d) }
         ensures size { length self.new ≡ length self.old }
